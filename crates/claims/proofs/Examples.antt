@@ -1,0 +1,15 @@
+-- The table of worked examples holds, by computation. Assumes nothing.
+use mathlib.Core.Path.{refl}
+use Rattle.walk.specs.Choice.{pick}
+use Rattle.le.specs.Bytes.{numAt}
+use Rattle.number.specs.Rounding.{rounded, digits}
+use Rattle.number.specs.Rk.{rkBits, quotientBits, rkSign, rkSize, meansNothing}
+use Rattle.number.specs.Packing.{packOf, wholeForm}
+use Rattle.functions.specs.Counts.{countsOf}
+use Rattle.formula.specs.Tokens.{operandOf, wholeOf, textOf, attributeOf, baseOf, columnClear, referenceOf, areaOf, fixedOf, variableOf, memoryOf, innerOf, classifiedOf, tokenOf}
+use Rattle.formula.specs.Judge.{atEnd, formulaOf, judgeOf}
+use Rattle.claims.specs.Examples.{examples, AllAnswered}
+
+pub all-answered : AllAnswered
+unfolding examples pick numAt rounded digits rkBits quotientBits rkSign rkSize meansNothing packOf wholeForm operandOf wholeOf textOf attributeOf baseOf columnClear referenceOf areaOf fixedOf variableOf memoryOf innerOf classifiedOf tokenOf atEnd formulaOf judgeOf
+all-answered = refl

@@ -1,0 +1,21 @@
+use borrow.Author.Needs.{needs}
+use Rattle.functions.proofs.Laws.{entries}
+use Rattle.functions.proofs.counts_at.Statement.{statement}
+use Rattle.functions.proofs.counts_at.Tie as tie
+
+pub counts-at-spec : {M : Type 1} → statement M
+counts-at-spec =
+    tie.close
+    (tie.spec
+    -- returns
+    (λ c. search entries)
+    -- word-at-requires
+    (λ c κs. search needs)
+    -- returns-2
+    (λ c. search entries)
+    -- cast-t5
+    (λ c. search needs)
+    -- cast-t7
+    (λ c. search needs)
+    -- returns-3
+    (λ c. search entries))

@@ -1,0 +1,4 @@
+pub mod Float64
+pub mod Rk
+pub mod Rounding
+pub mod Packing

@@ -1,0 +1,4 @@
+pub mod Choice
+pub mod Walk
+pub mod Items
+pub mod Bools

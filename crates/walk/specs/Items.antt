@@ -1,0 +1,20 @@
+-- A list given by steps: each gives an item, or passes on, or ends the list.
+use Prim.Native.Nat.{ℕ, zero, suc}
+use mathlib.Core.List.{List, [], _∷_}
+
+pub data Item (S X : Type 0) : Type 0 where
+  gives : X → S → Item S X
+  skips : S → Item S X
+  ends : Item S X
+
+abbrev pub onto : {S X : Type 0} → Item S X → (S → List X) → List X
+onto (gives x t) k = x ∷ k t
+onto (skips t) k = k t
+onto ends k = []
+
+unfoldable pub collectF : {S X : Type 0} → (S → Item S X) → ℕ → S → List X
+collectF step zero s = []
+collectF step (suc n) s = onto (step s) (λ t. collectF step n t)
+
+unfoldable pub collect : {S X : Type 0} → (S → Item S X) → (S → ℕ) → S → List X
+collect step μ s = collectF step (suc (μ s)) s
