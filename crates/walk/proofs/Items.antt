@@ -1,9 +1,9 @@
 -- The laws of a list by steps, over the state and the item. Assumes nothing.
-use Prim.Native.Nat.{ℕ, zero, suc, _≤_, _<_}
+use Prim.Native.Nat.{ℕ, zero, suc, _-_, _≤_, _<_}
 use mathlib.Core.Path.{_≡_, refl, ap}
 use mathlib.Core.List.{List, [], _∷_}
 use native.Mathlib.Omega.{arith}
-use Rattle.walk.specs.Items.{Item, gives, skips, ends, onto, collectF, collect}
+use Rattle.walk.specs.Items.{Item, gives, skips, ends, onto, collectF, collect, nth}
 
 -- the state that an item leads to is nearer the end
 abbrev pub Nearer : {S X : Type 0} → (S → ℕ) → S → Item S X → Type 0
@@ -32,3 +32,18 @@ module _ {S X : Type 0} (step : S → Item S X) (μ : S → ℕ) (near : (s : S)
       step-by (gives x t) l = ap (λ (r : List X). x ∷ r) (enough (μ s) (suc (μ t)) t l (omega arith))
       step-by (skips t) l = enough (μ s) (suc (μ t)) t l (omega arith)
       step-by ends l = refl
+
+-- ---- the n-th of a list
+module _ {A B : Type 0} (f : A → B) (d : B) where
+  pub nth-none : (l : List A) (n : ℕ) → l ≡ [] → d ≡ nth l n f d
+  unfolding nth
+  nth-none l n e = rw e refl
+
+  pub nth-here : (l : List A) (n : ℕ) (x : A) (r : List A) → l ≡ x ∷ r → n ≡ 0 → f x ≡ nth l n f d
+  unfolding nth
+  nth-here l n x r e h = rw (e, h) refl
+
+  pub nth-next : (l : List A) (n : ℕ) (x : A) (r : List A) → l ≡ x ∷ r → (n ≡ 0 → ⊥) → nth l n f d ≡ nth r (n - 1) f d
+  unfolding nth
+  nth-next l zero x r e h = absurd (h refl)
+  nth-next l (suc n) x r e h = let p : suc n - 1 ≡ n = omega arith in rw (e, p) refl

@@ -18,3 +18,9 @@ collectF step (suc n) s = onto (step s) (λ t. collectF step n t)
 
 unfoldable pub collect : {S X : Type 0} → (S → Item S X) → (S → ℕ) → S → List X
 collect step μ s = collectF step (suc (μ s)) s
+
+-- what f says of the n-th of a list, counted from 0; d where there is none
+unfoldable pub nth : {A B : Type 0} → List A → ℕ → (A → B) → B → B
+nth [] n f d = d
+nth (x ∷ l) zero f d = f x
+nth (x ∷ l) (suc n) f d = nth l n f d

@@ -1,0 +1,4 @@
+pub mod Sizes
+pub mod Judging
+pub mod Finding
+pub mod Counting

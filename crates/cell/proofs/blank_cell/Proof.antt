@@ -1,0 +1,21 @@
+use Rattle.cell.proofs.Finding.{finding}
+use borrow.Author.Needs.{needs}
+use Rattle.cell.proofs.blank_cell.Statement.{statement}
+use Rattle.cell.proofs.blank_cell.Tie as tie
+
+pub blank-cell-spec : {M : Type 1} → statement M
+blank-cell-spec =
+    tie.close
+    (tie.spec
+    -- returns
+    (λ c. search finding)
+    -- returns-2
+    (λ c. search finding)
+    -- add-q
+    (λ c. search needs)
+    -- no-tokens-requires
+    (λ c κs. search needs)
+    -- single-requires
+    (λ c κs. search needs)
+    -- returns-3
+    (λ c. search finding))

@@ -1,0 +1,6 @@
+pub mod Fields
+pub mod Records
+pub mod Locality
+pub mod Changed
+pub mod Planned
+pub mod Written

@@ -1,0 +1,188 @@
+-- A whole record: what it is to pass, where its cells lie, and which bytes it reads. Assumes nothing.
+use Prim.Native.Nat.{ℕ, suc, _+_, _-_, _*_, _≤_, _<_}
+use mathlib.Core.Path.{_≡_, refl, sym, ap, ap₂, _∙_}
+use mathlib.Core.List.{List, _∷_}
+use mathlib.Core.Bool.{Bool, true, false}
+use native.Mathlib.Omega.{arith}
+use native.Mathlib.Nat.{suc-mul, mul-le-mul-right}
+use lib.ListN.{length, getD, drop}
+use lib.Dec.{ltb, eqb}
+use borrow.Author.Tests.{eqb-false, ltb-true, ltb-false}
+use Rattle.walk.specs.Choice.{pick}
+use Rattle.walk.proofs.Choice.{pick-ne, pick-lt, pick-nlt, pick-true}
+use Rattle.value.specs.declared.Field.{Field}
+use Rattle.value.specs.Value.{widthOf, indexFits}
+use Rattle.cell.specs.declared.Shape.{Shape}
+use Rattle.cell.specs.declared.Shape.the-variants.{BLANK, NUMBER, RK, LABELSST, BOOLERR, MULRK, MULBLANK, FORMULA, OTHER}
+use Rattle.cell.specs.declared.Cell.{Cell}
+use Rattle.cell.specs.declared.Judged.the-variants.{Passed, Refused, Other}
+use Rattle.cell.specs.declared.Found.{Found}
+use Rattle.cell.specs.declared.Found.the-variants.{There, Absent}
+use Rattle.cell.specs.Cells.{isCell, fieldOf, partOf, rowAt, firstAt, sized, multiple, lengthAt, countOf, fieldAt, cellFrom, cellsOf, cellOf, foundOf, fieldsFit, judged, judgeOf}
+use Rattle.cell.proofs.Sizes.{sized-below, multiple-below, formula-below}
+use Rattle.kept.specs.Claims.{Right, placeOf}
+use Rattle.kept.proofs.Fields.{never, field-in, cells-length, cells-drop, cells-nth}
+
+-- ---- where the cells lie
+-- the parts of a record that has a k-th cell lie in its body, and its k-th column is at most 255 if its first is
+abbrev Lies : Shape → List ℕ → ℕ → ℕ → ℕ → Type 0
+Lies h s at z k = (4 + countOf h s at z * partOf (fieldOf h) ≤ z) × (firstAt s at ≤ 255 → firstAt s at + k ≤ 255)
+
+module _ (s : List ℕ) (at z k : ℕ) where
+  one-lies : (e part : ℕ) → 4 + part ≤ e → k < sized z e 1 → (4 + sized z e 1 * part ≤ z) × (firstAt s at ≤ 255 → firstAt s at + k ≤ 255)
+  one-lies e part h l = let b = sized-below z e 1 k l in (rw (b .0) (omega arith), (λ c. omega arith))
+
+  many-lies : (part : ℕ) → k < multiple s at z part → (4 + multiple s at z part * part ≤ z) × (firstAt s at ≤ 255 → firstAt s at + k ≤ 255)
+  many-lies part l = let b = multiple-below s at z part (multiple s at z part) k refl l in (omega arith, (λ c. b .0))
+
+  pub count-lies : (h : Shape) → k < countOf h s at z → Lies h s at z k
+  count-lies BLANK l = one-lies 6 2 (omega arith) l
+  count-lies NUMBER l = one-lies 14 10 (omega arith) l
+  count-lies RK l = one-lies 10 6 (omega arith) l
+  count-lies LABELSST l = one-lies 10 6 (omega arith) l
+  count-lies BOOLERR l = one-lies 8 4 (omega arith) l
+  count-lies MULRK l = many-lies 6 l
+  count-lies MULBLANK l = many-lies 2 l
+  count-lies FORMULA l = let b = formula-below (lengthAt s (at + 8)) z k l in (rw (b .2) (omega arith), (λ c. omega arith))
+  count-lies OTHER l = absurd (omega arith)
+
+-- ---- a record passes with n cells exactly where it is right
+module _ (s : List ℕ) (h : Shape) (at z u n : ℕ) where
+  right-by : (o a b c d : Bool) → isCell h ≡ o → eqb (countOf h s at z) 0 ≡ a → ltb 255 (firstAt s at) ≡ b → fieldsFit (fieldOf h) s (at + 8) (countOf h s at z) ≡ c → indexFits (fieldOf h) (fieldAt (fieldOf h) s (at + 8)) u ≡ d
+      → pick o (pick a (Refused 6 at) (pick b (Refused 6 at) (pick c (pick d (Passed (countOf h s at z)) (Refused 9 at)) (Refused 6 at)))) Other ≡ Passed n → Right s h at z u n
+  unfolding pick
+  right-by false a b c d w p q r t e = never (cc)
+  right-by true true b c d w p q r t e = never (cc)
+  right-by true false true c d w p q r t e = never (cc)
+  right-by true false false false d w p q r t e = never (cc)
+  right-by true false false true false w p q r t e = never (cc)
+  right-by true false false true true w p q r t e =
+      let is : n ≡ countOf h s at z = cc in
+      let some = eqb-false (countOf h s at z) 0 p in
+      record { cell = w; count = is; some = positive (countOf h s at z) is some; column = ltb-false 255 (firstAt s at) q; values = ap (fieldsFit (fieldOf h) s (at + 8)) is ∙ r; index = t }
+    where
+      positive : (m : ℕ) → n ≡ m → (m ≡ 0 → ⊥) → 1 ≤ n
+      positive m e o = omega arith
+
+  pub right : judgeOf s h at z u ≡ Passed n → Right s h at z u n
+  unfolding judgeOf judged
+  right e = right-by _ _ _ _ _ refl refl refl refl refl e
+
+  pub passes : Right s h at z u n → judgeOf s h at z u ≡ Passed n
+  unfolding judgeOf judged
+  passes r =
+      let is : n ≡ countOf h s at z = r .count in
+      sym (pick-true _ _ _ _ (r .cell) (pick-ne _ _ _ (countOf h s at z) 0 (λ e. let o = r .some in omega arith) (pick-nlt _ _ _ 255 (firstAt s at) (r .column) (pick-true _ _ _ _ (ap (fieldsFit (fieldOf h) s (at + 8)) (sym is) ∙ r .values) (pick-true _ _ _ _ (r .index) (ap Passed is))))))
+
+  -- ---- where its cells lie
+  module _ (r : Right s h at z u n) where
+    lies : (k : ℕ) → k < n → Lies h s at z k
+    lies k l = count-lies s at z k h (let e = r .count in omega arith)
+
+    pub parts-within : 4 + n * partOf (fieldOf h) ≤ z
+    parts-within = rw (r .count) (lies 0 (let o = r .some in omega arith) .0)
+
+    pub column-within : (k : ℕ) → k < n → firstAt s at + k ≤ 255
+    column-within k l = lies k l .1 (r .column)
+
+    pub count-small : n ≤ 256
+    count-small = let o = r .some in let c = column-within (n - 1) (omega arith) in omega arith
+
+    part-within : (k : ℕ) → k < n → k * partOf (fieldOf h) + partOf (fieldOf h) ≤ n * partOf (fieldOf h)
+    part-within k l = rw suc-mul at (mul-le-mul-right (partOf (fieldOf h)) l)
+
+    -- a cell's value field is inside the record's body
+    pub field-within : (k : ℕ) → k < n → (at + 4 ≤ placeOf (fieldOf h) at k) × (placeOf (fieldOf h) at k + widthOf (fieldOf h) ≤ at + 4 + z)
+    field-within k l = let a = parts-within in let b = part-within k l in let c = field-in (fieldOf h) in (omega arith, omega arith)
+
+    -- the fields of two cells are apart
+    pub fields-apart : (j k : ℕ) → j < k → placeOf (fieldOf h) at j + widthOf (fieldOf h) ≤ placeOf (fieldOf h) at k
+    fields-apart j k l = let b : j * partOf (fieldOf h) + partOf (fieldOf h) ≤ k * partOf (fieldOf h) = rw suc-mul at (mul-le-mul-right (partOf (fieldOf h)) l) in omega (arith, field-in (fieldOf h))
+
+    -- ---- its list of cells
+    pub cells-are : length (cellsOf s h at z) ≡ n
+    unfolding cellsOf
+    cells-are = cells-length (fieldOf h) s (rowAt s at) (countOf h s at z) (firstAt s at) (at + 8) ∙ sym (r .count)
+
+    pub cell-is : (d : Cell) (k : ℕ) → k < n → getD (cellsOf s h at z) k d ≡ cellOf s (fieldOf h) at k
+    unfolding cellsOf cellOf
+    cell-is d k l = let e = r .count in cells-nth (fieldOf h) s (rowAt s at) d (countOf h s at z) (firstAt s at) (at + 8) k _ _ (omega arith) refl refl
+
+-- the value fields of records that don't overlap are apart
+pub records-apart : (s : List ℕ) (h h′ : Shape) (at at′ z z′ u u′ n n′ k k′ : ℕ) → Right s h at z u n → Right s h′ at′ z′ u′ n′ → k < n → k′ < n′ → at + 4 + z ≤ at′
+    → placeOf (fieldOf h) at k + widthOf (fieldOf h) ≤ placeOf (fieldOf h′) at′ k′
+records-apart s h h′ at at′ z z′ u u′ n n′ k k′ r r′ l l′ a = omega (arith, field-within s h at z u n r k l .1, field-within s h′ at′ z′ u′ n′ r′ k′ l′ .0)
+
+-- a listed cell tells where its value field is, and of which kind
+pub cell-place : (s : List ℕ) (f : Field) (at k : ℕ) → (cellOf s f at k .field ≡ placeOf f at k) × (cellOf s f at k .kind ≡ f)
+unfolding cellOf cellFrom
+cell-place s f at k = (refl, refl)
+
+-- ---- the k-th cell, as it is asked for one after the other
+module _ (s : List ℕ) (h : Shape) (at z k : ℕ) where
+  found-by : (b : Bool) → ltb k (countOf h s at z) ≡ b → (c : Cell) (left : ℕ) → pick b (There (cellOf s (fieldOf h) at k) (countOf h s at z - (k + 1))) Absent ≡ There c left
+      → (k < countOf h s at z) × (c ≡ cellOf s (fieldOf h) at k) × (left ≡ countOf h s at z - (k + 1))
+  unfolding pick
+  found-by true e c left i = (ltb-true k (countOf h s at z) e, cc, cc)
+  found-by false e c left i = never (cc)
+
+  pub found-there : (c : Cell) (left : ℕ) → foundOf s h at z k ≡ There c left → (drop k (cellsOf s h at z) ≡ c ∷ drop (suc k) (cellsOf s h at z)) × (left + suc k ≡ length (cellsOf s h at z))
+  unfolding foundOf cellsOf cellOf
+  found-there c left e =
+      let b = found-by (ltb k (countOf h s at z)) refl c left e in
+      let n : length (cellsOf s h at z) ≡ countOf h s at z = cells-length (fieldOf h) s (rowAt s at) (countOf h s at z) (firstAt s at) (at + 8) in
+      (cells-drop (fieldOf h) s (rowAt s at) (countOf h s at z) (firstAt s at) (at + 8) k _ _ (b .0) refl refl ∙ ap (λ (x : Cell). x ∷ drop (suc k) (cellsOf s h at z)) (sym (b .1)), omega (arith, b .0, b .2))
+
+  absent-by : (b : Bool) → ltb k (countOf h s at z) ≡ b → pick b (There (cellOf s (fieldOf h) at k) (countOf h s at z - (k + 1))) Absent ≡ Absent → countOf h s at z ≤ k
+  unfolding pick
+  absent-by true e i = never (cc)
+  absent-by false e i = ltb-false k (countOf h s at z) e
+
+  pub found-absent : foundOf s h at z k ≡ Absent → length (cellsOf s h at z) ≤ k
+  unfolding foundOf cellsOf
+  found-absent e = rw (cells-length (fieldOf h) s (rowAt s at) (countOf h s at z) (firstAt s at) (at + 8)) (absent-by (ltb k (countOf h s at z)) refl e)
+
+-- ---- a record of more than one cell: each lies in it, and its column is at most 255
+one-cell : {A : Type 0} (z e : ℕ) → 1 < sized z e 1 → A
+one-cell z e l = absurd (let b = sized-below z e 1 1 l in omega arith)
+
+module _ (s : List ℕ) (at z j : ℕ) where
+  pub columns-low : (h : Shape) → 1 < countOf h s at z → j < countOf h s at z → firstAt s at + j ≤ 255
+  columns-low BLANK l i = one-cell z 6 l
+  columns-low NUMBER l i = one-cell z 14 l
+  columns-low RK l i = one-cell z 10 l
+  columns-low LABELSST l i = one-cell z 10 l
+  columns-low BOOLERR l i = one-cell z 8 l
+  columns-low MULRK l i = multiple-below s at z 6 (multiple s at z 6) j refl i .0
+  columns-low MULBLANK l i = multiple-below s at z 2 (multiple s at z 2) j refl i .0
+  columns-low FORMULA l i = absurd (let b = formula-below (lengthAt s (at + 8)) z 1 l in omega arith)
+  columns-low OTHER l i = absurd (omega arith)
+
+  -- as a caller that was given the k-th cell reads those that are left; f is the kind of field that it told
+  module _ (h : Shape) (k : ℕ) (r : Found) (c : Cell) (left : ℕ) (is : r ≡ foundOf s h at z k) (there : r ≡ There c left) (later : k < j) (last : j ≤ k + left) where
+    counted : (k < countOf h s at z) × (c ≡ cellOf s (fieldOf h) at k) × (left ≡ countOf h s at z - (k + 1))
+    unfolding foundOf
+    counted = found-by s h at z k (ltb k (countOf h s at z)) refl c left (sym is ∙ there)
+
+    within : j < countOf h s at z
+    within = let b = counted in omega arith
+
+    pub next-column : firstAt s at + j < 65536
+    next-column = let b = counted in omega (arith, columns-low h (omega (arith, within)) within)
+
+    module _ (f : Field) (told : f ≡ c .kind) where
+      kind-is : f ≡ fieldOf h
+      unfolding cellOf cellFrom
+      kind-is = told ∙ ap (λ (x : Cell). x .kind) (counted .1)
+
+      pub next-room : (len : ℕ) → at + 4 + z ≤ len → at + 8 + j * partOf f + partOf f ≤ len
+      next-room len body =
+          let inside : j * partOf (fieldOf h) + partOf (fieldOf h) ≤ countOf h s at z * partOf (fieldOf h) = rw suc-mul at (mul-le-mul-right (partOf (fieldOf h)) within) in
+          rw kind-is (omega (arith, count-lies s at z j h within .0))
+
+      -- the j-th cell, as a part of this kind is read, is the j-th that is found
+      pub next-found : (x : Cell) → x ≡ cellOf s f at j → There x (k + left - j) ≡ foundOf s h at z j
+      unfolding foundOf
+      next-found x e =
+          let b = counted in
+          pick-lt _ _ _ j (countOf h s at z) within (ap₂ There (e ∙ ap (λ (g : Field). cellOf s g at j) kind-is) (omega (arith, within)))

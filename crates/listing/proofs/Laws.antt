@@ -1,0 +1,218 @@
+-- The laws of the listing, with what a call gave as the proofs have it. Assumes nothing.
+use Prim.Native.Nat.{ℕ, zero, suc, _+_, _-_, _^_, _≤_, _<_}
+use mathlib.Core.Path.{_≡_, refl, sym, ap, _∙_, subst}
+use mathlib.Core.List.{List, [], _∷_}
+use native.Mathlib.Omega.{arith}
+use lib.ListN.{length, take, drop}
+use lib.Dec.{ltb, eqb}
+use Rattle.walk.specs.Choice.{pick}
+use Rattle.walk.proofs.Choice.{pick-eq, pick-ne, pick-lt, pick-nlt, refl′}
+use Rattle.walk.specs.Walk.{Next, more, stop, run}
+use Rattle.walk.proofs.Walk.{run-more, run-stop}
+use Rattle.walk.specs.Items.{Item, gives, skips, ends, onto, nth}
+use Rattle.walk.proofs.Items.{Nearer, nth-none, nth-here, nth-next}
+use Rattle.record.specs.declared.Header.{Header}
+use Rattle.record.specs.declared.Header.the-variants.{Record, Cut, End}
+use Rattle.record.specs.Record.{headerAt}
+use Rattle.record.proofs.Laws.{Whole, whole}
+use Rattle.cell.specs.declared.Cell.{Cell}
+use Rattle.cell.specs.declared.Found.{Found}
+use Rattle.cell.specs.declared.Found.the-variants.{There, Absent}
+use Rattle.cell.specs.Cells.{shapeOf, foundOf}
+use Rattle.sheetlist.specs.Agreement.{Sheet}
+use Rattle.globals.specs.declared.Bound.{Bound}
+use Rattle.globals.specs.declared.Bound.the-variants as bound
+use Rattle.globals.specs.declared.Globals.{Globals}
+use Rattle.globals.specs.Sheets.{boundAt, sheetsFrom, sheetsOf}
+use Rattle.globals.proofs.Sheets.{sheets-done, sheets-skip, sheets-more, sheets-less, skip-less, sheet-room}
+use Rattle.workbook.specs.declared.Checked.{Checked}
+use Rattle.workbook.specs.declared.Checked.the-variants.{Right, Wrong}
+use Rattle.workbook.specs.Check.{checkedOf}
+use Rattle.reading.specs.declared.Place.{Place}
+use Rattle.reading.specs.Cells.{placeAt, nextPart, otherItem, onFound, recordItem, onHeader, cellItem, remaining, listedFrom}
+use Rattle.reading.proofs.Laws.{count-small, found-there, item-near, listed-step}
+use Rattle.listing.specs.declared.Start.{Start}
+use Rattle.listing.specs.declared.Start.the-variants as start
+use Rattle.listing.specs.declared.Listed.{Listed}
+use Rattle.listing.specs.declared.Listed.the-variants as listed
+use Rattle.listing.specs.declared.Step.{Step}
+use Rattle.listing.specs.declared.Step.the-variants as step
+use Rattle.listing.specs.declared.Sought.{Sought}
+use Rattle.listing.specs.declared.Sought.the-variants as sought
+use Rattle.listing.specs.Listing.{onChecked, onName, nameAt, nameOf, startBy, startOf, cellsOf, onItem, nextOf}
+use Rattle.listing.specs.Parts.{itemOf, foundSheet, SoughtWithin}
+
+-- ---- one step
+module _ (s : List ℕ) (v : Place) (t z e : ℕ) (y : Item Place Cell) where
+  pub inside : (v .level ≡ 0 → ⊥) → y ≡ otherItem v t e → y ≡ recordItem s v t z e
+  unfolding recordItem
+  inside h g = pick-ne _ _ _ _ _ h g
+
+  pub by-found : {r x : Found} → v .level ≡ 0 → r ≡ foundOf s (shapeOf t) (v .at) z (v .part) → r ≡ x → y ≡ onFound v t e x → y ≡ recordItem s v t z e
+  unfolding recordItem
+  by-found h i j g = pick-eq _ _ _ _ _ h (g ∙ ap (onFound v t e) (sym j ∙ i))
+
+module _ (v : Place) (t e : ℕ) (c : Cell) (left : ℕ) where
+  pub last-part : (p : Place) → p ≡ placeAt e (v .level) → left ≡ 0 → gives c p ≡ onFound v t e (There c left)
+  last-part p i h = ap (gives c) (i ∙ pick-eq _ _ _ _ _ h refl)
+
+  pub more-parts : (left ≡ 0 → ⊥) → gives c (record { at = v .at; part = v .part + 1; level = v .level }) ≡ onFound v t e (There c left)
+  unfolding nextPart
+  more-parts h = ap (gives c) (pick-ne _ _ _ _ _ h refl)
+
+pub part-fits : (s : List ℕ) (v : Place) (t z left : ℕ) (c : Cell) {r : Found} → r ≡ foundOf s (shapeOf t) (v .at) z (v .part) → r ≡ There c left → v .part + 1 < 65536
+part-fits s v t z left c i j =
+    let f = found-there s (shapeOf t) (v .at) z (v .part) c left (sym i ∙ j) in
+    let n = count-small (shapeOf t) s (v .at) z in
+    omega arith
+
+pub by-header : (s : List ℕ) (v : Place) (y : Item Place Cell) {r x : Header} → r ≡ headerAt s (v .at) → r ≡ x → y ≡ onHeader s v x → y ≡ cellItem s v
+unfolding cellItem
+by-header s v y i j g = g ∙ ap (onHeader s v) (sym j ∙ i)
+
+pub ruleset step-laws = (inside, by-found, last-part, more-parts, by-header)
+
+-- ---- the next cell
+module _ (s : List ℕ) where
+  abbrev go : Place → Next Place Listed
+  go v = onItem (cellItem s v)
+
+  falls-by : (v w : Place) (x : Item Place Cell) → Nearer (remaining s) v x → onItem x ≡ more w → remaining s w < remaining s v
+  falls-by v w (gives c t) n h = absurd (let z : _≡_ {A = ℕ} 0 1 = cc in omega arith)
+  falls-by v w (skips t) n h = let e : t ≡ w = cc in rw e at n
+  falls-by v w ends n h = absurd (let z : _≡_ {A = ℕ} 0 1 = cc in omega arith)
+
+  falls : (v w : Place) → go v ≡ more w → remaining s w < remaining s v
+  falls v w h = falls-by v w (cellItem s v) (item-near s v) h
+
+  module _ (v₀ v : Place) (r : Step) (is : itemOf r ≡ cellItem s v) where
+    by-step : (x : Step) → r ≡ x → go v ≡ onItem (itemOf x)
+    by-step x h = ap onItem (sym is ∙ ap itemOf h)
+
+    pub less-skip : (w : Place) → r ≡ step.Skips w → remaining s w < remaining s v
+    less-skip w h = falls v w (by-step _ h)
+
+    module _ (inv : nextOf s v₀ ≡ nextOf s v) where
+      pub next-skip : (w : Place) → r ≡ step.Skips w → nextOf s v₀ ≡ nextOf s w
+      unfolding nextOf
+      next-skip w h = inv ∙ run-more go listed.End (remaining s) falls (by-step _ h)
+
+      pub next-cell : (c : Cell) (w : Place) → r ≡ step.Gives c w → listed.Cell c w ≡ nextOf s v₀
+      unfolding nextOf
+      next-cell c w h = sym (inv ∙ run-stop go listed.End (remaining s) falls (by-step _ h))
+
+      pub next-end : r ≡ step.Ends → listed.End ≡ nextOf s v₀
+      unfolding nextOf
+      next-end h = sym (inv ∙ run-stop go listed.End (remaining s) falls (by-step _ h))
+
+pub ruleset next-laws = (less-skip, next-skip, next-cell, next-end)
+
+-- ---- the sheet that is sought
+module _ (s : List ℕ) (n p left : ℕ) (inv : nth (sheetsOf s) n foundSheet sought.Absent ≡ nth (sheetsFrom s p) left foundSheet sought.Absent) (r : Bound) (is : r ≡ boundAt s p) where
+  pub sought-none : r ≡ bound.Done → sought.Absent ≡ nth (sheetsOf s) n foundSheet sought.Absent
+  sought-none h = nth-none foundSheet sought.Absent (sheetsFrom s p) left (sheets-done s p r is h) ∙ sym inv
+
+  pub sought-skip : (m : ℕ) → r ≡ bound.Other m → nth (sheetsOf s) n foundSheet sought.Absent ≡ nth (sheetsFrom s m) left foundSheet sought.Absent
+  sought-skip m h = inv ∙ ap (λ (l : List Sheet). nth l left foundSheet sought.Absent) (sheets-skip s p r is m h)
+
+  module _ (o q k m : ℕ) (h : r ≡ bound.Sheet o q k m) where
+    pub sought-here : left ≡ 0 → sought.Sheet o q k ≡ nth (sheetsOf s) n foundSheet sought.Absent
+    sought-here e = nth-here foundSheet sought.Absent (sheetsFrom s p) left (record { header = o; position = q; kind = k }) (sheetsFrom s m) (sheets-more s p r is o q k m h) e ∙ sym inv
+
+    pub sought-next : (left ≡ 0 → ⊥) → nth (sheetsOf s) n foundSheet sought.Absent ≡ nth (sheetsFrom s m) (left - 1) foundSheet sought.Absent
+    sought-next e = inv ∙ nth-next foundSheet sought.Absent (sheetsFrom s p) left (record { header = o; position = q; kind = k }) (sheetsFrom s m) (sheets-more s p r is o q k m h) e
+
+pub ruleset sought-laws = (sought-none, sought-skip, sought-here, sought-next, sheets-less, skip-less, sheet-room)
+
+pub sought-room : (len o p k : ℕ) (q : Sought) → SoughtWithin len q → q ≡ sought.Sheet o p k → o + 12 ≤ len
+sought-room len o p k q h e = let w : SoughtWithin len (sought.Sheet o p k) = subst (SoughtWithin len) e h in w
+
+-- ---- a sheet's name
+module _ (s : List ℕ) (o : ℕ) (y : List ℕ) {r : Header} (is : r ≡ headerAt s o) where
+  pub name-by : {x : Header} → r ≡ x → y ≡ onName s o x → y ≡ nameAt s o
+  unfolding nameAt
+  name-by j g = g ∙ ap (onName s o) (sym j ∙ is)
+
+pub name-short : (s : List ℕ) (o t z e : ℕ) → z < 8 → [] ≡ onName s o (Record t z e)
+name-short s o t z e h = pick-lt _ _ _ _ _ h refl
+
+pub name-part : (s : List ℕ) (o t z e : ℕ) → 8 ≤ z → take (e - (o + 12)) (drop (o + 12) s) ≡ onName s o (Record t z e)
+name-part s o t z e h = pick-nlt _ _ _ _ _ h refl
+
+pub ruleset name-laws = (name-by, name-short, name-part, refl′)
+
+module _ (s : List ℕ) (o t z e : ℕ) {r : Header} (is : r ≡ headerAt s o) (h : r ≡ Record t z e) (size : 8 ≤ z) where
+  w : Whole s o t z e
+  w = whole s o t z e (sym is ∙ h)
+
+  pub name-from : o + 12 ≤ e
+  name-from = let x = w in omega arith
+
+  pub name-to : e ≤ length s
+  name-to = let x = w in omega arith
+
+-- ---- where a sheet's listing starts
+pub start-sheet : (len p q k : ℕ) (v : Place) → q ≡ p → k ≡ 1 → v ≡ placeAt (q + 20) 0 → v ≡ startBy len p k
+unfolding startBy
+start-sheet len p q k v e h i = pick-eq _ _ _ _ _ h (i ∙ ap (λ (x : ℕ). placeAt (x + 20) 0) e)
+
+pub start-none : (len p k : ℕ) (v : Place) → (k ≡ 1 → ⊥) → v ≡ placeAt len 0 → v ≡ startBy len p k
+unfolding startBy
+start-none len p k v h i = pick-ne _ _ _ _ _ h i
+
+pub ruleset start-laws = (start-sheet, start-none)
+
+-- ---- the questions: what g says of the sheet that is sought, after the check
+seeks : {B : Type 0} (g : Sought → B) (l : List Sheet) (n : ℕ) → nth l n (λ (x : Sheet). g (foundSheet x)) (g sought.Absent) ≡ g (nth l n foundSheet sought.Absent)
+unfolding nth
+seeks g [] n = refl
+seeks g (x ∷ l) zero = refl
+seeks g (x ∷ l) (suc n) = seeks g l n
+
+module _ {B : Type 0} (refuse : ℕ → ℕ → B) (g : Sought → B) (s : List ℕ) (n : ℕ) {r : Checked} (is : r ≡ checkedOf s 0) where
+  abbrev asked : B
+  asked = onChecked refuse (nth (sheetsOf s) n (λ (x : Sheet). g (foundSheet x)) (g sought.Absent)) (checkedOf s 0)
+
+  refused : (m o : ℕ) → r ≡ Wrong m o → refuse m o ≡ asked
+  refused m o h = ap (onChecked refuse (nth (sheetsOf s) n (λ (x : Sheet). g (foundSheet x)) (g sought.Absent))) (sym h ∙ is)
+
+  answered : (b : Globals) {q x : Sought} → r ≡ Right b → q ≡ nth (sheetsOf s) n foundSheet sought.Absent → q ≡ x → g x ≡ asked
+  answered b h i j =
+      ap g (sym j ∙ i) ∙ sym (seeks g (sheetsOf s) n)
+      ∙ ap (onChecked refuse (nth (sheetsOf s) n (λ (x : Sheet). g (foundSheet x)) (g sought.Absent))) (sym h ∙ is)
+
+abbrev toStart : List ℕ → Sought → Start
+toStart s (sought.Sheet o p k) = start.At (startBy (length s) p k)
+toStart s sought.Absent = start.Refused 11 0
+
+abbrev toName : List ℕ → Sought → List ℕ
+toName s (sought.Sheet o p k) = nameAt s o
+toName s sought.Absent = []
+
+module _ (s : List ℕ) (n : ℕ) {r : Checked} (is : r ≡ checkedOf s 0) where
+  pub cells-wrong : (m o : ℕ) → r ≡ Wrong m o → start.Refused m o ≡ cellsOf s n
+  unfolding cellsOf
+  cells-wrong m o h = refused start.Refused (toStart s) s n is m o h
+
+  pub name-wrong : (m o : ℕ) → r ≡ Wrong m o → [] ≡ nameOf s n
+  unfolding nameOf
+  name-wrong m o h = refused (λ _ _. []) (toName s) s n is m o h
+
+  module _ (b : Globals) {q : Sought} (h : r ≡ Right b) (i : q ≡ nth (sheetsOf s) n foundSheet sought.Absent) where
+    pub cells-absent : q ≡ sought.Absent → start.Refused 11 0 ≡ cellsOf s n
+    unfolding cellsOf
+    cells-absent j = answered start.Refused (toStart s) s n is b h i j
+
+    pub cells-there : (o p k : ℕ) (v : Place) → q ≡ sought.Sheet o p k → v ≡ startBy (length s) p k → start.At v ≡ cellsOf s n
+    unfolding cellsOf
+    cells-there o p k v j e = ap start.At e ∙ answered start.Refused (toStart s) s n is b h i j
+
+    pub name-absent : q ≡ sought.Absent → [] ≡ nameOf s n
+    unfolding nameOf
+    name-absent j = answered (λ _ _. []) (toName s) s n is b h i j
+
+    pub name-there : (o p k : ℕ) (l : List ℕ) → q ≡ sought.Sheet o p k → l ≡ nameAt s o → l ≡ nameOf s n
+    unfolding nameOf
+    name-there o p k l j e = e ∙ answered (λ _ _. []) (toName s) s n is b h i j
+
+pub ruleset question-laws = (cells-wrong, cells-absent, cells-there, name-wrong, name-absent, name-there)

@@ -1,0 +1,26 @@
+use Rattle.listing.proofs.Laws.{step-laws}
+use Rattle.record.proofs.Laws.{body-within}
+use borrow.Author.Needs.{needs}
+use Rattle.listing.proofs.cell_item.Statement.{statement}
+use Rattle.listing.proofs.cell_item.Tie as tie
+
+pub cell-item-spec : {M : Type 1} → statement M
+cell-item-spec =
+    tie.close
+    (tie.spec
+    -- header-at-requires
+    (λ c κs. search needs)
+    -- enum-known-id
+    (λ c. search needs)
+    -- record-item-requires
+    (λ c κs. search (step-laws, body-within, needs))
+    -- enum-told
+    (λ c. search needs)
+    -- enum-told-2
+    (λ c. search needs)
+    -- returns
+    (λ c. search (step-laws, body-within, needs))
+    -- returns-2
+    (λ c. search (step-laws, body-within, needs))
+    -- returns-3
+    (λ c. search (step-laws, body-within, needs)))

@@ -1,0 +1,36 @@
+use borrow.Author.Needs.{needs}
+use Rattle.sheets.proofs.Laws.{Filling, fill-laws}
+use mathlib.Core.Path.{_≡_, refl}
+use Prim.Native.Nat.{_-_}
+use lib.ListN.{length}
+use Rattle.sheets.proofs.fill.Statement.{statement}
+use Rattle.sheets.proofs.fill.Tie as tie
+
+abbrev Inv-loop : tie.InvT-loop
+Inv-loop s unique from slots₀ at₀ slots at = (length slots ≡ 838861) × Filling s unique at₀ slots at
+
+abbrev μ-loop : tie.MeasureT-loop
+μ-loop s unique from slots₀ at₀ slots at = length s - at
+
+pub fill-spec : {M : Type 1} → statement M
+fill-spec =
+    tie.close
+    (tie.spec Inv-loop μ-loop
+    -- loop-holds
+    (λ c. search (fill-laws, needs))
+    -- bof-at-requires
+    (λ c κs. search (fill-laws, needs))
+    -- enum-known-kind
+    (λ c. search needs)
+    -- code-requires
+    (λ c κs. search (fill-laws, needs))
+    -- element-write-slots
+    (λ c. search (fill-laws, needs))
+    -- loop-less
+    (λ c. search (fill-laws, needs))
+    -- loop-again
+    (λ c. search (fill-laws, needs))
+    -- enum-told
+    (λ c. search needs)
+    -- returns
+    (λ c. search (fill-laws, needs)))

@@ -1,0 +1,46 @@
+use borrow.Author.Needs.{needs}
+use Rattle.sheets.proofs.Laws.{Passing, pass-laws}
+use mathlib.Core.Path.{_≡_, refl}
+use Prim.Native.Nat.{_-_}
+use lib.ListN.{length}
+use Rattle.sheets.proofs.pass.Statement.{statement}
+use Rattle.sheets.proofs.pass.Tie as tie
+
+abbrev Inv-loop : tie.InvT-loop
+Inv-loop s slots₀ p₀ slots p = (length slots ≡ 838861) × Passing s slots₀ slots p
+
+abbrev μ-loop : tie.MeasureT-loop
+μ-loop s slots₀ p₀ slots p = length s - p
+
+pub pass-spec : {M : Type 1} → statement M
+pass-spec =
+    tie.close
+    (tie.spec Inv-loop μ-loop
+    -- loop-holds
+    (λ c. search (pass-laws, needs))
+    -- bound-at-requires
+    (λ c κs. search (pass-laws, needs))
+    -- enum-known-header
+    (λ c. search needs)
+    -- u32-as-usize-requires
+    (λ c κs. search (pass-laws, needs))
+    -- has-requires
+    (λ c κs. search (pass-laws, needs))
+    -- element-write-slots
+    (λ c. search (pass-laws, needs))
+    -- loop-less
+    (λ c. search (pass-laws, needs))
+    -- loop-again
+    (λ c. search (pass-laws, needs))
+    -- returns
+    (λ c. search (pass-laws, needs))
+    -- enum-known-next
+    (λ c. search needs)
+    -- loop-less-2
+    (λ c. search (pass-laws, needs))
+    -- loop-again-2
+    (λ c. search (pass-laws, needs))
+    -- enum-told
+    (λ c. search needs)
+    -- returns-2
+    (λ c. search (pass-laws, needs)))

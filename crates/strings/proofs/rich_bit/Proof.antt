@@ -1,0 +1,14 @@
+use Prim.Native.Nat.{_/_}
+use borrow.Author.Needs.{needs}
+use lib.Bits.{and-mask}
+use Rattle.strings.proofs.rich_bit.Statement.{statement}
+use Rattle.strings.proofs.rich_bit.Tie as tie
+
+pub rich-bit-spec : {M : Type 1} → statement M
+rich-bit-spec =
+    tie.close
+    (tie.spec
+    -- cast-result
+    (λ c. rw (and-mask (c .args .flags / 8) 1) (search needs))
+    -- returns
+    (λ c. and-mask (c .args .flags / 8) 1))

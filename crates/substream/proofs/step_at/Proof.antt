@@ -1,0 +1,27 @@
+use Rattle.substream.proofs.Laws.{answers}
+use Rattle.walk.proofs.Choice.{picks-told}
+use Rattle.record.proofs.Laws.{body-within}
+use borrow.Author.Needs.{needs}
+use Rattle.substream.proofs.step_at.Statement.{statement}
+use Rattle.substream.proofs.step_at.Tie as tie
+
+pub step-at-spec : {M : Type 1} → statement M
+step-at-spec =
+    tie.close
+    (tie.spec
+    -- header-at-requires
+    (λ c κs. search needs)
+    -- enum-known-id
+    (λ c. search needs)
+    -- record-in-requires
+    (λ c κs. search (answers, picks-told, body-within, needs))
+    -- enum-told
+    (λ c. search needs)
+    -- enum-told-2
+    (λ c. search needs)
+    -- returns
+    (λ c. search (answers, picks-told, body-within, needs))
+    -- returns-2
+    (λ c. search (answers, picks-told, body-within, needs))
+    -- returns-3
+    (λ c. search (answers, picks-told, body-within, needs)))

@@ -1,0 +1,20 @@
+use borrow.Author.Needs.{needs}
+use Rattle.walk.proofs.Choice.{tests}
+use Rattle.toplevel.specs.TopLevel.{bofKind}
+use Rattle.walk.specs.Choice.{pick}
+use Rattle.toplevel.proofs.bof_kind.Statement.{statement}
+use Rattle.toplevel.proofs.bof_kind.Tie as tie
+
+pub bof-kind-spec : {M : Type 1} → statement M
+unfolding bofKind pick
+bof-kind-spec =
+    tie.close
+    (tie.spec
+    -- returns
+    (λ c. search tests)
+    -- returns-2
+    (λ c. search (tests, c .match .keys2))
+    -- returns-3
+    (λ c. search (tests, c .match .keys3))
+    -- returns-4
+    (λ c. search tests))
