@@ -27,9 +27,10 @@ use Rattle.globals.specs.Sheets.{boundAt, sheetsFrom, sheetsOf}
 use Rattle.globals.proofs.Sheets.{sheets-done, sheets-skip, sheets-more, sheets-less, skip-less, sheet-room}
 use Rattle.workbook.specs.declared.Checked.{Checked}
 use Rattle.workbook.specs.declared.Checked.the-variants.{Right, Wrong}
-use Rattle.workbook.specs.Check.{checkedOf}
+use Rattle.workbook.specs.Check.{checkedOf, onChecked}
 use Rattle.reading.specs.declared.Place.{Place}
 use Rattle.reading.specs.Cells.{placeAt, nextPart, otherItem, onFound, recordItem, onHeader, cellItem, remaining, listedFrom}
+use Rattle.reading.specs.Reading.{onName, nameAt, startBy, startOf}
 use Rattle.reading.proofs.Laws.{count-small, found-there, item-near, listed-step}
 use Rattle.listing.specs.declared.Start.{Start}
 use Rattle.listing.specs.declared.Start.the-variants as start
@@ -39,7 +40,7 @@ use Rattle.listing.specs.declared.Step.{Step}
 use Rattle.listing.specs.declared.Step.the-variants as step
 use Rattle.listing.specs.declared.Sought.{Sought}
 use Rattle.listing.specs.declared.Sought.the-variants as sought
-use Rattle.listing.specs.Listing.{onChecked, onName, nameAt, nameOf, startBy, startOf, cellsOf, onItem, nextOf}
+use Rattle.listing.specs.Listing.{nameOf, cellsOf, onItem, nextOf}
 use Rattle.listing.specs.Parts.{itemOf, foundSheet, SoughtWithin}
 
 -- ---- one step
@@ -171,15 +172,15 @@ seeks g (x ∷ l) (suc n) = seeks g l n
 
 module _ {B : Type 0} (refuse : ℕ → ℕ → B) (g : Sought → B) (s : List ℕ) (n : ℕ) {r : Checked} (is : r ≡ checkedOf s 0) where
   abbrev asked : B
-  asked = onChecked refuse (nth (sheetsOf s) n (λ (x : Sheet). g (foundSheet x)) (g sought.Absent)) (checkedOf s 0)
+  asked = onChecked refuse (λ _. nth (sheetsOf s) n (λ (x : Sheet). g (foundSheet x)) (g sought.Absent)) (checkedOf s 0)
 
   refused : (m o : ℕ) → r ≡ Wrong m o → refuse m o ≡ asked
-  refused m o h = ap (onChecked refuse (nth (sheetsOf s) n (λ (x : Sheet). g (foundSheet x)) (g sought.Absent))) (sym h ∙ is)
+  refused m o h = ap (onChecked refuse (λ _. nth (sheetsOf s) n (λ (x : Sheet). g (foundSheet x)) (g sought.Absent))) (sym h ∙ is)
 
   answered : (b : Globals) {q x : Sought} → r ≡ Right b → q ≡ nth (sheetsOf s) n foundSheet sought.Absent → q ≡ x → g x ≡ asked
   answered b h i j =
       ap g (sym j ∙ i) ∙ sym (seeks g (sheetsOf s) n)
-      ∙ ap (onChecked refuse (nth (sheetsOf s) n (λ (x : Sheet). g (foundSheet x)) (g sought.Absent))) (sym h ∙ is)
+      ∙ ap (onChecked refuse (λ _. nth (sheetsOf s) n (λ (x : Sheet). g (foundSheet x)) (g sought.Absent))) (sym h ∙ is)
 
 abbrev toStart : List ℕ → Sought → Start
 toStart s (sought.Sheet o p k) = start.At (startBy (length s) p k)

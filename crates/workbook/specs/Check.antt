@@ -44,3 +44,8 @@ answered s (Wrong n o) = Refused n o
 
 unfoldable pub checkOf : List ℕ → Answer
 checkOf s = answered s (checkedOf s 0)
+
+-- for the questions that give first any refusal that the check would: r is what a refusal gives, f what a stream that passes gives
+abbrev pub onChecked : {A : Type 0} → (ℕ → ℕ → A) → (Globals → A) → Checked → A
+onChecked r f (Right g) = f g
+onChecked r f (Wrong n o) = r n o

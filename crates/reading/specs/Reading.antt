@@ -1,0 +1,97 @@
+-- The reading of a stream: in order, each sheet's name, width, type, row count and listed cells (row, column, value, a formula's tokens), and each
+-- shared string's units.
+use Prim.Native.Nat.{ℕ, _+_, _-_, max}
+use mathlib.Core.List.{List, [], _∷_, map}
+use lib.ListN.{length, take, drop}
+use lib.Dec.{ltb, eqb}
+use Rattle.walk.specs.Choice.{pick}
+use Rattle.le.specs.Bytes.{byteAt, u16At}
+use Rattle.record.specs.declared.Header.{Header}
+use Rattle.record.specs.declared.Header.the-variants.{Record, Cut, End}
+use Rattle.record.specs.Record.{headerAt}
+use Rattle.segments.specs.Segments.{widthOf}
+use Rattle.strings.specs.Table.{stringsOf}
+use Rattle.value.specs.declared.CellValue.{CellValue}
+use Rattle.cell.specs.declared.Cell.{Cell}
+use Rattle.cell.specs.Cells.{tokensOf}
+use Rattle.sheetlist.specs.Agreement.{Sheet}
+use Rattle.globals.specs.declared.Globals.{Globals}
+use Rattle.globals.specs.declared.Ended.{Ended}
+use Rattle.globals.specs.declared.Ended.the-variants as globals
+use Rattle.globals.specs.Globals.{globalsOf}
+use Rattle.globals.specs.Sheets.{sheetsOf}
+use Rattle.reading.specs.declared.Place.{Place}
+use Rattle.reading.specs.Cells.{placeAt, listedFrom}
+
+-- ---- a sheet, by its BOUNDSHEET, whose header is at h
+-- the name: from the flags byte up to the record's end
+abbrev pub onName : List ℕ → ℕ → Header → List ℕ
+onName s h (Record t z e) = pick (ltb z 8) [] (take (e - (h + 12)) (drop (h + 12) s))
+onName s h Cut = []
+onName s h End = []
+
+unfoldable pub nameAt : List ℕ → ℕ → List ℕ
+nameAt s h = onName s h (headerAt s h)
+
+-- bytes a character, and the type byte: 0 worksheet, 1 macro, 2 chart
+abbrev pub widthAt : List ℕ → ℕ → ℕ
+widthAt s h = widthOf (byteAt s (h + 11))
+
+abbrev pub typeAt : List ℕ → ℕ → ℕ
+typeAt s h = byteAt s (h + 9)
+
+-- a worksheet's cells start after its BOF; chart and macro sheets list no cells
+unfoldable pub startBy : ℕ → ℕ → ℕ → Place
+startBy len position kind = pick (eqb kind 1) (placeAt (position + 20) 0) (placeAt len 0)
+
+abbrev pub startOf : List ℕ → Sheet → Place
+startOf s x = startBy (length s) (x .position) (x .kind)
+
+abbrev pub listedOf : List ℕ → Sheet → List Cell
+listedOf s x = listedFrom s (startOf s x)
+
+-- the highest listed row plus one, or 0
+unfoldable pub rowsOf : List Cell → ℕ
+rowsOf [] = 0
+rowsOf (c ∷ l) = max (c .row + 1) (rowsOf l)
+
+-- ---- the shared strings of the SST whose header is at p, 0 where there is none
+unfoldable pub stringsAt : List ℕ → ℕ → List (List ℕ)
+stringsAt s p = pick (eqb p 0) [] (stringsOf s p (p + 4 + u16At s (p + 2)))
+
+abbrev pub onGlobals : List ℕ → Ended → List (List ℕ)
+onGlobals s (globals.At g) = stringsAt s (g .table)
+onGlobals s (globals.Refused n o) = []
+
+-- ---- the whole
+pub record CellReading : Type 0 where
+  pub row : ℕ
+  pub column : ℕ
+  pub value : CellValue
+  pub tokens : List ℕ
+
+pub record SheetReading : Type 0 where
+  pub name : List ℕ
+  pub width : ℕ
+  pub type : ℕ
+  pub rows : ℕ
+  pub cells : List CellReading
+
+pub record Reading : Type 0 where
+  pub sheets : List SheetReading
+  pub strings : List (List ℕ)
+
+abbrev pub cellReading : List ℕ → Cell → CellReading
+cellReading s c = record { row = c .row; column = c .column; value = c .value; tokens = tokensOf s c }
+
+abbrev pub sheetReading : List ℕ → Sheet → SheetReading
+sheetReading s x = record {
+  name = nameAt s (x .header);
+  width = widthAt s (x .header);
+  type = typeAt s (x .header);
+  rows = rowsOf (listedOf s x);
+  cells = map (cellReading s) (listedOf s x);
+}
+
+unfoldable pub readingOf : List ℕ → Reading
+readingOf s = record { sheets = map (sheetReading s) (sheetsOf s); strings = onGlobals s (globalsOf s 0) }

@@ -1,0 +1,302 @@
+//! The shared string table: an SST record and the CONTINUEs right after it.
+
+use crate::records::{kind, Record, Records};
+use crate::Refusal;
+
+const COUNTS_SIZE: usize = 8;
+const RUN_SIZE: usize = 4;
+
+/// Where a string table stands and how many strings it has.
+#[derive(Clone, Debug, Default)]
+pub(crate) struct StringTable<'a> {
+    /// None where the globals have no SST.
+    first: Option<Segments<'a>>,
+    unique: u32,
+}
+
+impl<'a> StringTable<'a> {
+    /// Judges the table that starts with this SST record, and moves `records`
+    /// past its CONTINUEs.
+    pub fn read(sst: &Record<'a>, records: &mut Records<'a>) -> Result<Self, Refusal> {
+        let mut segments = Segments::new(sst, records.clone());
+        let counts = segments.piece(COUNTS_SIZE)?;
+        // The total in the first four bytes is not judged.
+        let unique = u32::from_le_bytes([counts[4], counts[5], counts[6], counts[7]]);
+        let first = segments.clone();
+        for _ in 0..unique {
+            string(&mut segments, |_| ())?;
+        }
+        segments.finish()?;
+        *records = segments.records;
+        Ok(StringTable {
+            first: Some(first),
+            unique,
+        })
+    }
+
+    /// The number of strings; 0 where there is no table.
+    #[inline]
+    pub fn unique(&self) -> u32 {
+        self.unique
+    }
+
+    /// The units of all strings.
+    pub fn all(&self) -> Result<Vec<Vec<u16>>, Refusal> {
+        let Some(mut segments) = self.first.clone() else {
+            return Ok(Vec::new());
+        };
+        let mut strings = Vec::new();
+        for _ in 0..self.unique {
+            let mut units = Vec::new();
+            string(&mut segments, |part| part.append_to(&mut units))?;
+            strings.push(units);
+        }
+        Ok(strings)
+    }
+
+    /// Writes one string's units at the start of the buffer.
+    pub fn fetch(&self, index: u32, buffer: &mut [u16]) -> Result<usize, Refusal> {
+        let absent = Refusal::of_question(11);
+        let mut segments = self.first.clone().ok_or(absent)?;
+        if index >= self.unique {
+            return Err(absent);
+        }
+        for _ in 0..index {
+            string(&mut segments, |_| ())?;
+        }
+        // The length is known before the first unit, so that a short buffer is
+        // refused before anything is written.
+        let length = next_length(segments.clone())?;
+        let mut free = buffer
+            .get_mut(..length)
+            .ok_or(Refusal::of_question(12))?
+            .iter_mut();
+        string(&mut segments, |part| part.write_to(&mut free))?;
+        Ok(length)
+    }
+}
+
+/// A part of a string's characters that stands in one segment.
+#[derive(Clone, Copy)]
+enum Characters<'a> {
+    Narrow(&'a [u8]),
+    Wide(&'a [[u8; 2]]),
+}
+
+impl Characters<'_> {
+    fn append_to(self, units: &mut Vec<u16>) {
+        match self {
+            Characters::Narrow(bytes) => units.extend(bytes.iter().map(|&byte| u16::from(byte))),
+            Characters::Wide(pairs) => units.extend(pairs.iter().copied().map(u16::from_le_bytes)),
+        }
+    }
+
+    fn write_to<'u>(self, free: &mut impl Iterator<Item = &'u mut u16>) {
+        // The characters come first: a unit taken before them would be lost
+        // where they end.
+        match self {
+            Characters::Narrow(bytes) => {
+                for (&byte, unit) in bytes.iter().zip(free) {
+                    *unit = u16::from(byte);
+                }
+            }
+            Characters::Wide(pairs) => {
+                for (&pair, unit) in pairs.iter().zip(free) {
+                    *unit = u16::from_le_bytes(pair);
+                }
+            }
+        }
+    }
+}
+
+/// The part of a table that is still unread: the rest of the segment being
+/// read, and the records after that segment.
+#[derive(Clone, Debug)]
+struct Segments<'a> {
+    /// Where the header of the segment being read stands.
+    at: usize,
+    rest: &'a [u8],
+    records: Records<'a>,
+}
+
+impl<'a> Segments<'a> {
+    fn new(segment: &Record<'a>, records: Records<'a>) -> Self {
+        Segments {
+            at: segment.at,
+            rest: segment.body,
+            records,
+        }
+    }
+
+    fn broken(&self) -> Refusal {
+        Refusal::new(8, self.at)
+    }
+
+    #[inline]
+    fn is_spent(&self) -> bool {
+        self.rest.is_empty()
+    }
+
+    /// Moves on to the next segment, where one is needed.
+    fn advance(&mut self) -> Result<(), Refusal> {
+        if self.records.next_kind() != Some(kind::CONTINUE) {
+            return Err(self.broken());
+        }
+        let segment = self.records.next()?.ok_or(self.broken())?;
+        self.at = segment.at;
+        self.rest = segment.body;
+        if self.is_spent() {
+            return Err(self.broken());
+        }
+        Ok(())
+    }
+
+    /// Moves on where the segment being read has nothing left.
+    #[inline]
+    fn advance_if_spent(&mut self) -> Result<(), Refusal> {
+        if self.is_spent() {
+            self.advance()?;
+        }
+        Ok(())
+    }
+
+    /// The next bytes, which may not leave the segment.
+    #[inline]
+    fn piece(&mut self, size: usize) -> Result<&'a [u8], Refusal> {
+        let (piece, rest) = self.rest.split_at_checked(size).ok_or(self.broken())?;
+        self.rest = rest;
+        Ok(piece)
+    }
+
+    /// The next fields of one width: as many as the segment still holds whole,
+    /// at least one, at most `most`.
+    #[inline]
+    fn fields(&mut self, width: usize, most: usize) -> Result<(usize, &'a [u8]), Refusal> {
+        let count = most.min(self.rest.len() / width);
+        if count == 0 {
+            return Err(self.broken());
+        }
+        Ok((count, self.piece(count * width)?))
+    }
+
+    /// The table must end with the segment being read, and no CONTINUE may
+    /// follow it.
+    fn finish(&mut self) -> Result<(), Refusal> {
+        if !self.is_spent() {
+            return Err(self.broken());
+        }
+        if self.records.next_kind() == Some(kind::CONTINUE) {
+            // One that is cut is refused as such, as any record would be.
+            let at = self.records.at();
+            self.records.next()?;
+            return Err(Refusal::new(8, at));
+        }
+        Ok(())
+    }
+}
+
+/// What stands before a string's characters.
+struct Head {
+    length: usize,
+    wide: bool,
+    runs: usize,
+    phonetic: usize,
+}
+
+impl Head {
+    #[inline]
+    fn read(segments: &mut Segments<'_>) -> Result<Self, Refusal> {
+        let start = segments.piece(3)?;
+        let flags = start[2];
+        let (phonetic, rich) = (flags & 4 != 0, flags & 8 != 0);
+        let runs = if rich {
+            let count = segments.piece(2)?;
+            usize::from(u16::from_le_bytes([count[0], count[1]]))
+        } else {
+            0
+        };
+        let phonetic = if phonetic {
+            let size = segments.piece(4)?;
+            u32::from_le_bytes([size[0], size[1], size[2], size[3]]) as usize
+        } else {
+            0
+        };
+        Ok(Head {
+            length: usize::from(u16::from_le_bytes([start[0], start[1]])),
+            wide: flags & 1 != 0,
+            runs,
+            phonetic,
+        })
+    }
+}
+
+/// Reads one string, handing over its characters segment by segment.
+#[inline]
+fn string<'a, F: FnMut(Characters<'a>)>(
+    segments: &mut Segments<'a>,
+    take: F,
+) -> Result<(), Refusal> {
+    segments.advance_if_spent()?;
+    let head = Head::read(segments)?;
+    characters(segments, &head, take)?;
+    skip_runs(segments, head.runs)?;
+    skip_phonetic(segments, head.phonetic)
+}
+
+/// The length of the next string.
+fn next_length(mut segments: Segments<'_>) -> Result<usize, Refusal> {
+    segments.advance_if_spent()?;
+    Ok(Head::read(&mut segments)?.length)
+}
+
+/// The first character stands in the head's segment, and every later segment
+/// has a flags byte with a width of its own before at least one character.
+#[inline]
+fn characters<'a, F: FnMut(Characters<'a>)>(
+    segments: &mut Segments<'a>,
+    head: &Head,
+    mut take: F,
+) -> Result<(), Refusal> {
+    let mut left = head.length;
+    let mut wide = head.wide;
+    while left > 0 {
+        let (count, bytes) = segments.fields(if wide { 2 } else { 1 }, left)?;
+        take(if wide {
+            Characters::Wide(bytes.as_chunks().0)
+        } else {
+            Characters::Narrow(bytes)
+        });
+        left -= count;
+        if left > 0 {
+            if !segments.is_spent() {
+                // Half a character is left.
+                return Err(segments.broken());
+            }
+            segments.advance()?;
+            wide = segments.piece(1)?[0] & 1 != 0;
+        }
+    }
+    Ok(())
+}
+
+/// Runs go on in the next segment without a flags byte; none may be cut.
+#[inline]
+fn skip_runs(segments: &mut Segments<'_>, runs: usize) -> Result<(), Refusal> {
+    let mut left = runs;
+    while left > 0 {
+        segments.advance_if_spent()?;
+        left -= segments.fields(RUN_SIZE, left)?.0;
+    }
+    Ok(())
+}
+
+/// Phonetic bytes go on in the next segment wherever they like.
+#[inline]
+fn skip_phonetic(segments: &mut Segments<'_>, size: usize) -> Result<(), Refusal> {
+    let mut left = size;
+    while left > 0 {
+        segments.advance_if_spent()?;
+        left -= segments.fields(1, left)?.0;
+    }
+    Ok(())
+}

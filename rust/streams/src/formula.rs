@@ -1,0 +1,360 @@
+//! Formula bytes.
+
+use crate::record::ERROR_CODES;
+use crate::rng::Rng;
+use std::sync::OnceLock;
+
+const LONGEST_FORMULA: usize = 1_800;
+const MEMORY_DEPTHS: usize = 8;
+
+/// The functions by whether their number of arguments is fixed.
+struct Functions {
+    fixed: Vec<(u16, usize)>,
+    variable: Vec<(u16, usize, usize)>,
+}
+
+fn functions() -> &'static Functions {
+    static FUNCTIONS: OnceLock<Functions> = OnceLock::new();
+    FUNCTIONS.get_or_init(|| {
+        let mut functions = Functions {
+            fixed: Vec::new(),
+            variable: Vec::new(),
+        };
+        let text = include_str!("../../second-reader/data/function-counts.tsv");
+        for line in text.lines().skip(1) {
+            let fields: Vec<&str> = line.split('\t').collect();
+            let number = |at: usize| fields[at].parse::<usize>().expect("a number");
+            let (index, least, greatest) = (number(0) as u16, number(2), number(3));
+            if least == greatest {
+                functions.fixed.push((index, least));
+            } else {
+                functions.variable.push((index, least, greatest));
+            }
+        }
+        functions
+    })
+}
+
+/// A formula of any sort: valid, damaged, or thrown together.
+pub(crate) fn any(rng: &mut Rng) -> Vec<u8> {
+    match rng.below(100) {
+        0..=49 => valid(rng),
+        50..=87 => damaged(rng),
+        88..=97 => thrown_together(rng),
+        _ => {
+            let size = rng.mostly_small(0, 60);
+            rng.bytes(size)
+        }
+    }
+}
+
+/// A short valid formula.
+pub(crate) fn small(rng: &mut Rng) -> Vec<u8> {
+    expression(rng, 4)
+}
+
+/// A valid formula.
+pub(crate) fn valid(rng: &mut Rng) -> Vec<u8> {
+    match rng.below(100) {
+        0..=1 => alone(rng),
+        2..=4 => padded(rng),
+        5..=14 => {
+            let depth = rng.between(1, MEMORY_DEPTHS);
+            let inner = leaf(rng);
+            wrapped(rng, inner, depth)
+        }
+        _ => {
+            let nodes = rng.mostly_small(1, 70);
+            expression(rng, nodes)
+        }
+    }
+}
+
+/// A token that must be the whole formula.
+fn alone(rng: &mut Rng) -> Vec<u8> {
+    let mut tokens = vec![rng.pick(&[0x01, 0x02])];
+    rng.append(&mut tokens, 4);
+    tokens
+}
+
+/// A formula made as long as may be, or nearly.
+fn padded(rng: &mut Rng) -> Vec<u8> {
+    let length = rng.between(LONGEST_FORMULA - 5, LONGEST_FORMULA);
+    let mut tokens = expression(rng, 20);
+    while tokens.len() < length {
+        if tokens.len() + 4 <= length && rng.percent(50) {
+            attribute(rng, &mut tokens);
+        } else {
+            tokens.push(rng.pick(&[0x12, 0x13, 0x14, 0x15]));
+        }
+    }
+    tokens
+}
+
+/// A formula inside so many memory tokens.
+fn wrapped(rng: &mut Rng, inner: Vec<u8>, depth: usize) -> Vec<u8> {
+    let mut tokens = inner;
+    for _ in 0..depth {
+        let mut outer = Vec::with_capacity(tokens.len() + 8);
+        memory(rng, &mut outer, &tokens);
+        tokens = outer;
+    }
+    tokens
+}
+
+fn expression(rng: &mut Rng, nodes: usize) -> Vec<u8> {
+    let mut maker = Maker { nodes, depth: 0 };
+    let mut tokens = Vec::with_capacity(nodes * 8);
+    maker.expression(rng, &mut tokens);
+    if tokens.len() > LONGEST_FORMULA {
+        return leaf(rng);
+    }
+    tokens
+}
+
+/// Makes tokens that leave one operand more than before.
+struct Maker {
+    /// How many more tokens may be made that take operands.
+    nodes: usize,
+    /// How many memory tokens are around.
+    depth: usize,
+}
+
+impl Maker {
+    fn expression(&mut self, rng: &mut Rng, tokens: &mut Vec<u8>) {
+        if rng.percent(6) {
+            attribute_of(rng, tokens, &[0x01, 0x02, 0x04, 0x08, 0x40, 0x41]);
+        }
+        if self.nodes == 0 {
+            return append_leaf(rng, tokens);
+        }
+        self.nodes -= 1;
+        match rng.below(20) {
+            0..=2 => append_leaf(rng, tokens),
+            3..=5 => self.unary(rng, tokens),
+            6..=11 => self.binary(rng, tokens),
+            12..=14 => self.fixed_function(rng, tokens),
+            15..=17 => self.variable_function(rng, tokens),
+            _ => self.memory(rng, tokens),
+        }
+    }
+
+    fn unary(&mut self, rng: &mut Rng, tokens: &mut Vec<u8>) {
+        self.expression(rng, tokens);
+        if rng.percent(20) {
+            attribute_of(rng, tokens, &[0x10]);
+        } else {
+            tokens.push(rng.between(0x12, 0x15) as u8);
+        }
+    }
+
+    fn binary(&mut self, rng: &mut Rng, tokens: &mut Vec<u8>) {
+        self.expression(rng, tokens);
+        self.expression(rng, tokens);
+        tokens.push(rng.between(0x03, 0x11) as u8);
+    }
+
+    fn fixed_function(&mut self, rng: &mut Rng, tokens: &mut Vec<u8>) {
+        let (index, count) = rng.pick(&functions().fixed);
+        self.arguments(rng, tokens, count);
+        tokens.push(classed(rng, 0x21));
+        tokens.extend(index.to_le_bytes());
+    }
+
+    fn variable_function(&mut self, rng: &mut Rng, tokens: &mut Vec<u8>) {
+        let (index, least, greatest) = rng.pick(&functions().variable);
+        let count = match rng.below(8) {
+            0 => greatest,
+            1 => least,
+            _ => rng.mostly_small(least, greatest),
+        };
+        self.arguments(rng, tokens, count);
+        // The upper bit of the count is ignored.
+        let ignored = if rng.percent(10) { 0x80 } else { 0 };
+        tokens.extend([classed(rng, 0x22), count as u8 | ignored]);
+        tokens.extend(index.to_le_bytes());
+    }
+
+    fn arguments(&mut self, rng: &mut Rng, tokens: &mut Vec<u8>, count: usize) {
+        for _ in 0..count {
+            self.expression(rng, tokens);
+        }
+    }
+
+    fn memory(&mut self, rng: &mut Rng, tokens: &mut Vec<u8>) {
+        if self.depth == MEMORY_DEPTHS {
+            return append_leaf(rng, tokens);
+        }
+        self.depth += 1;
+        let mut inner = Vec::new();
+        self.expression(rng, &mut inner);
+        self.depth -= 1;
+        memory(rng, tokens, &inner);
+    }
+}
+
+/// Appends a memory token with its inner formula.
+fn memory(rng: &mut Rng, tokens: &mut Vec<u8>, inner: &[u8]) {
+    let first = rng.pick(&[0x27, 0x28, 0x29]);
+    tokens.push(classed(rng, first));
+    if first != 0x29 {
+        rng.append(tokens, 4);
+    }
+    tokens.extend((inner.len() as u16).to_le_bytes());
+    tokens.extend(inner);
+}
+
+/// A token byte in one of the three classes.
+fn classed(rng: &mut Rng, first: u8) -> u8 {
+    first + rng.pick(&[0x00, 0x20, 0x40])
+}
+
+fn attribute(rng: &mut Rng, tokens: &mut Vec<u8>) {
+    attribute_of(rng, tokens, &[0x01, 0x02, 0x08, 0x10, 0x40, 0x41]);
+}
+
+fn attribute_of(rng: &mut Rng, tokens: &mut Vec<u8>, kinds: &[u8]) {
+    let which = rng.pick(kinds);
+    tokens.extend([0x19, which]);
+    if which == 0x04 {
+        let n = rng.mostly_small(0, 6);
+        tokens.extend((n as u16).to_le_bytes());
+        rng.append(tokens, 2 * (n + 1));
+    } else {
+        rng.append(tokens, 2);
+    }
+}
+
+const OPERANDS: [(u8, usize); 18] = [
+    (0x16, 0),
+    (0x17, 0),
+    (0x1C, 0),
+    (0x1D, 0),
+    (0x1E, 2),
+    (0x1F, 8),
+    (0x23, 4),
+    (0x24, 4),
+    (0x25, 8),
+    (0x2A, 4),
+    (0x2B, 8),
+    (0x2C, 4),
+    (0x2D, 8),
+    (0x39, 6),
+    (0x3A, 6),
+    (0x3B, 10),
+    (0x3C, 6),
+    (0x3D, 10),
+];
+
+fn leaf(rng: &mut Rng) -> Vec<u8> {
+    let mut tokens = Vec::new();
+    append_leaf(rng, &mut tokens);
+    tokens
+}
+
+/// Appends a token that gives one operand.
+fn append_leaf(rng: &mut Rng, tokens: &mut Vec<u8>) {
+    let (first, size) = rng.pick(&OPERANDS);
+    match first {
+        0x17 => append_text(rng, tokens),
+        0x1C => tokens.extend([first, rng.pick(&ERROR_CODES)]),
+        0x1D => tokens.extend([first, rng.below(2) as u8]),
+        0x24 | 0x3A => append_reference(rng, tokens, first, size, 2),
+        0x25 | 0x3B => append_reference(rng, tokens, first, size, 4),
+        _ => {
+            let class = if first < 0x20 {
+                first
+            } else {
+                classed(rng, first)
+            };
+            tokens.push(class);
+            rng.append(tokens, size);
+        }
+    }
+}
+
+fn append_text(rng: &mut Rng, tokens: &mut Vec<u8>) {
+    let count = rng.mostly_small(0, 40);
+    let flags = rng.byte();
+    tokens.extend([0x17, count as u8, flags]);
+    rng.append(tokens, if flags & 1 != 0 { 2 * count } else { count });
+}
+
+/// Appends a reference that ends with so many bytes of column words.
+fn append_reference(rng: &mut Rng, tokens: &mut Vec<u8>, first: u8, size: usize, columns: usize) {
+    tokens.push(classed(rng, first));
+    rng.append(tokens, size);
+    let from = tokens.len() - columns;
+    for word in tokens[from..].chunks_exact_mut(2) {
+        // Bits 8 to 13 must be clear.
+        word[1] &= 0xC0;
+    }
+}
+
+/// Whole tokens one after the other, with no care for operands or functions.
+fn thrown_together(rng: &mut Rng) -> Vec<u8> {
+    let mut tokens = Vec::new();
+    for _ in 0..rng.mostly_small(1, 12) {
+        match rng.below(8) {
+            0 => tokens.push(rng.between(0x03, 0x15) as u8),
+            1 => attribute(rng, &mut tokens),
+            2 => append_function(rng, &mut tokens),
+            3 => {
+                let inner = expression(rng, 3);
+                memory(rng, &mut tokens, &inner);
+            }
+            _ => append_leaf(rng, &mut tokens),
+        }
+    }
+    tokens
+}
+
+/// A function token with any index and count, near the table or in it.
+fn append_function(rng: &mut Rng, tokens: &mut Vec<u8>) {
+    let index = match rng.below(4) {
+        0 => rng.pick(&[255, 367, 368, 0x8000, 0x80FF, 0xFFFF, 202, 216]),
+        1 => rng.pick(&functions().fixed).0,
+        2 => rng.pick(&functions().variable).0,
+        _ => rng.below(400) as u16,
+    };
+    if rng.percent(50) {
+        tokens.push(classed(rng, 0x21));
+    } else {
+        tokens.push(classed(rng, 0x22));
+        tokens.push(rng.mostly_small(0, 255) as u8);
+    }
+    tokens.extend(index.to_le_bytes());
+}
+
+/// A valid formula with one to three small damages.
+fn damaged(rng: &mut Rng) -> Vec<u8> {
+    let mut tokens = valid(rng);
+    for _ in 0..rng.pick(&[1, 1, 1, 2, 3]) {
+        damage(rng, &mut tokens);
+    }
+    tokens
+}
+
+fn damage(rng: &mut Rng, tokens: &mut Vec<u8>) {
+    let place = rng.below(tokens.len().max(1));
+    match rng.below(12) {
+        0 => tokens.truncate(place),
+        1 => drop(tokens.splice(place..place, [rng.byte()])),
+        2 => tokens.insert(place, rng.between(0x01, 0x3F) as u8),
+        3 if place < tokens.len() => drop(tokens.remove(place)),
+        4 => append_leaf(rng, tokens),
+        5 => tokens.push(rng.between(0x03, 0x15) as u8),
+        6 => append_function(rng, tokens),
+        7 => {
+            let depth = rng.between(1, 10);
+            let inner = std::mem::take(tokens);
+            if !inner.is_empty() {
+                *tokens = wrapped(rng, inner, depth);
+            }
+        }
+        8 => tokens.resize(rng.pick(&[0, 1, 1_799, 1_800, 1_801, 2_000]), 0x12),
+        9 if place < tokens.len() => tokens[place] = tokens[place].wrapping_add(1),
+        _ if place < tokens.len() => tokens[place] = rng.byte(),
+        _ => tokens.push(rng.byte()),
+    }
+}

@@ -1,0 +1,143 @@
+//! Makes BIFF8 workbook streams, formula bytes and questions from a seed, to
+//! compare readers with. The same seed always gives the same bytes.
+//!
+//! Valid streams use every rule there is; damaged ones break mostly one rule at
+//! a time, so that every place where a reader may refuse is reached.
+
+#![forbid(unsafe_code)]
+#![warn(missing_docs)]
+
+mod big;
+mod cells;
+mod contents;
+mod damage;
+mod formula;
+mod questions;
+mod record;
+mod rng;
+mod table;
+mod workbook;
+
+pub use big::Big;
+pub use contents::{CellContents, Content, Contents, SheetContents};
+pub use questions::{Correction, Fetch, NewValue};
+
+use record::{bof, Book, Record, Tie};
+use rng::Rng;
+
+/// No stream of [`stream`] is longer, so that each may be read from a program's
+/// standard input.
+pub const LONGEST: usize = 65_536;
+
+/// A stream of any sort: valid, damaged, or thrown together.
+pub fn stream(seed: u64) -> Vec<u8> {
+    let mut rng = Rng::for_purpose(seed, 1);
+    let mut stream = match rng.below(100) {
+        0..=41 => workbook::valid(&mut rng, false).0.write(),
+        42..=93 => {
+            let (book, _) = workbook::valid(&mut rng, false);
+            damage::damaged(&mut rng, book)
+        }
+        94..=97 => thrown_together(&mut rng),
+        _ => noise(&mut rng),
+    };
+    stream.truncate(LONGEST);
+    stream
+}
+
+/// A stream that breaks no rule.
+pub fn valid(seed: u64) -> Vec<u8> {
+    let mut rng = Rng::for_purpose(seed, 2);
+    workbook::valid(&mut rng, false).0.write()
+}
+
+/// The same stream as [`valid`] gives, and what was put into it.
+pub fn valid_with_contents(seed: u64) -> (Vec<u8>, Contents) {
+    let mut rng = Rng::for_purpose(seed, 2);
+    let (book, contents) = workbook::valid(&mut rng, true);
+    (book.write(), contents)
+}
+
+/// A stream with one to three damages.
+pub fn damaged(seed: u64) -> Vec<u8> {
+    let mut rng = Rng::for_purpose(seed, 3);
+    let (book, _) = workbook::valid(&mut rng, false);
+    damage::damaged(&mut rng, book)
+}
+
+/// Formula bytes of any sort.
+pub fn formula(seed: u64) -> Vec<u8> {
+    formula::any(&mut Rng::for_purpose(seed, 4))
+}
+
+/// Formula bytes that break no rule.
+pub fn valid_formula(seed: u64) -> Vec<u8> {
+    formula::valid(&mut Rng::for_purpose(seed, 5))
+}
+
+/// A correction to ask of a stream, with a good chance of hitting a cell.
+pub fn correction(seed: u64, stream: &[u8]) -> Correction {
+    questions::correction(&mut Rng::for_purpose(seed, 6), stream)
+}
+
+/// A fetch to ask of a stream.
+pub fn fetch(seed: u64, stream: &[u8]) -> Fetch {
+    questions::fetch(&mut Rng::for_purpose(seed, 7), stream)
+}
+
+/// A sheet number to ask a stream's cells of.
+pub fn sheet(seed: u64, stream: &[u8]) -> u32 {
+    questions::sheet(&mut Rng::for_purpose(seed, 8), stream)
+}
+
+/// A large valid stream of exactly so many bytes, at least 200.
+pub fn big(kind: Big, bytes: usize) -> Vec<u8> {
+    big::make(kind, bytes)
+}
+
+/// A stream at or over the greatest length: 16,777,216 bytes and up to two
+/// more. It is valid, or faulty at its start, or cut at its end.
+pub fn longest(seed: u64) -> Vec<u8> {
+    let mut rng = Rng::for_purpose(seed, 9);
+    let length = 16_777_216 + seed as usize % 3;
+    let mut stream = valid(seed);
+    match rng.below(4) {
+        0 => stream.insert(0, 0),
+        1 => stream.truncate(stream.len() - 1),
+        _ => {}
+    }
+    stream.resize(length, 0);
+    stream
+}
+
+/// Records of any type one after the other, after a globals BOF.
+fn thrown_together(rng: &mut Rng) -> Vec<u8> {
+    let mut book = Book::default();
+    book.push(Record::bof(rng, bof::GLOBALS, Tie::None));
+    for _ in 0..rng.mostly_small(0, 12) {
+        book.push(damage::any_record(rng));
+    }
+    book.write()
+}
+
+/// A few bytes with nothing in mind, often with a record's start.
+fn noise(rng: &mut Rng) -> Vec<u8> {
+    let mut stream = Vec::new();
+    if rng.percent(60) {
+        let kind = rng.pick(&[bof::GLOBALS, bof::WORKSHEET, 0x0105]);
+        let mut book = Book::default();
+        book.push(Record::bof(rng, kind, Tie::None));
+        stream = book.write();
+        let size = rng.below(stream.len() + 1);
+        stream.truncate(size);
+    }
+    match rng.below(3) {
+        0 => stream.resize(stream.len() + rng.below(30), 0),
+        1 => {
+            let size = rng.below(40);
+            rng.append(&mut stream, size);
+        }
+        _ => {}
+    }
+    stream
+}

@@ -1,0 +1,247 @@
+//! Questions to ask of a stream.
+
+use crate::cells::{number_bits, rk_word};
+use crate::record::{kind, long_at, word_at, ERROR_CODES, HEADER_SIZE};
+use crate::rng::Rng;
+
+/// A correction to ask for.
+#[derive(Clone, Copy, Debug, PartialEq)]
+pub struct Correction {
+    /// The sheet's number.
+    pub sheet: u32,
+    /// The cell's row.
+    pub row: u32,
+    /// The cell's column.
+    pub column: u32,
+    /// What is to be written.
+    pub value: NewValue,
+}
+
+/// The new value of a cell.
+#[derive(Clone, Copy, Debug, PartialEq)]
+pub enum NewValue {
+    /// A number.
+    Number(f64),
+    /// The index of a shared string.
+    Text(u32),
+    /// A truth, in range or not.
+    Truth(u8),
+    /// An error code, known or not.
+    Error(u8),
+}
+
+/// A fetch to ask for.
+#[derive(Clone, Copy, Debug, PartialEq, Eq)]
+pub struct Fetch {
+    /// The string's index.
+    pub index: u32,
+    /// How many units the buffer has.
+    pub units: usize,
+}
+
+/// A cell as it is found by a look at the stream, without any judging.
+#[derive(Clone, Copy)]
+struct Found {
+    kind: u16,
+    row: u16,
+    column: u16,
+}
+
+pub(crate) fn correction(rng: &mut Rng, stream: &[u8]) -> Correction {
+    let sheets = sheet_positions(stream);
+    let sheet = asked_sheet(rng, sheets.len());
+    let cells = match sheets.get(sheet as usize) {
+        Some(&position) => cells_from(stream, position as usize),
+        None => Vec::new(),
+    };
+    if cells.is_empty() || rng.percent(4) {
+        return Correction {
+            sheet,
+            row: rng.pick(&[0, 1, 2, 65_535, 65_536, 65_537, u32::MAX]),
+            column: rng.pick(&[0, 1, 2, 255, 256, 65_536, u32::MAX]),
+            value: any_value(rng, stream),
+        };
+    }
+    let cell = rng.pick(&cells);
+    let (row, column) = beside(rng, u32::from(cell.row), u32::from(cell.column));
+    let value = if rng.percent(85) {
+        matching_value(rng, stream, cell.kind)
+    } else {
+        any_value(rng, stream)
+    };
+    Correction {
+        sheet,
+        row,
+        column,
+        value,
+    }
+}
+
+/// The address itself, or at times one that is cut down to it or next to it.
+fn beside(rng: &mut Rng, row: u32, column: u32) -> (u32, u32) {
+    match rng.below(60) {
+        0 => (row + 0x1_0000, column),
+        1 => (row, column + 0x100),
+        2 => (row, column + 0x1_0000),
+        3 => (row + 1, column),
+        4 => (row, column + 1),
+        _ => (row, column),
+    }
+}
+
+pub(crate) fn fetch(rng: &mut Rng, stream: &[u8]) -> Fetch {
+    let unique = unique_strings(stream);
+    let index = if unique == 0 || rng.percent(8) {
+        rng.pick(&[0, 1, unique, unique.wrapping_add(1), u32::MAX])
+    } else {
+        rng.below((unique as usize).min(5_000)) as u32
+    };
+    let units = match rng.below(10) {
+        0..=3 => 70_000,
+        4 => 0,
+        _ => rng.mostly_small(0, 60),
+    };
+    Fetch { index, units }
+}
+
+pub(crate) fn sheet(rng: &mut Rng, stream: &[u8]) -> u32 {
+    let sheets = sheet_positions(stream).len();
+    asked_sheet(rng, sheets)
+}
+
+fn asked_sheet(rng: &mut Rng, sheets: usize) -> u32 {
+    if sheets == 0 || rng.percent(4) {
+        return rng.pick(&[sheets as u32, sheets as u32 + 1, 0x1_0000, u32::MAX]);
+    }
+    rng.below(sheets) as u32
+}
+
+/// The records from a place on, as far as they can be walked: type and body.
+fn records(stream: &[u8], from: usize) -> impl Iterator<Item = (u16, &[u8])> {
+    let mut rest = stream.get(from..).unwrap_or_default();
+    std::iter::from_fn(move || {
+        let kind = word_at(rest, 0)?;
+        let size = usize::from(word_at(rest, 2)?);
+        let body = rest.get(HEADER_SIZE..HEADER_SIZE + size)?;
+        rest = &rest[HEADER_SIZE + size..];
+        Some((kind, body))
+    })
+}
+
+fn globals(stream: &[u8]) -> impl Iterator<Item = (u16, &[u8])> {
+    records(stream, 0).take_while(|&(kind, _)| kind != kind::EOF)
+}
+
+fn sheet_positions(stream: &[u8]) -> Vec<u32> {
+    globals(stream)
+        .filter(|&(kind, _)| kind == kind::BOUNDSHEET)
+        .map(|(_, body)| long_at(body, 0).unwrap_or(0))
+        .collect()
+}
+
+fn unique_strings(stream: &[u8]) -> u32 {
+    globals(stream)
+        .find(|&(kind, _)| kind == kind::SST)
+        .and_then(|(_, body)| long_at(body, 4))
+        .unwrap_or(0)
+}
+
+/// The cells from a BOF on to its EOF, nested charts left out.
+fn cells_from(stream: &[u8], position: usize) -> Vec<Found> {
+    let mut cells = Vec::new();
+    let mut depth = 0;
+    for (kind, body) in records(stream, position) {
+        match kind {
+            kind::BOF => depth += 1,
+            kind::EOF if depth <= 1 => break,
+            kind::EOF => depth -= 1,
+            _ if depth == 1 && kind::CELLS.contains(&kind) => append_cells(&mut cells, kind, body),
+            _ => {}
+        }
+    }
+    cells
+}
+
+fn append_cells(cells: &mut Vec<Found>, kind: u16, body: &[u8]) {
+    let (Some(row), Some(column)) = (word_at(body, 0), word_at(body, 2)) else {
+        return;
+    };
+    let last = match kind {
+        kind::MULRK | kind::MULBLANK => word_at(body, body.len().max(2) - 2).unwrap_or(column),
+        _ => column,
+    };
+    // A few columns of a multiple record are enough to ask for.
+    let last = last.min(column.saturating_add(255));
+    cells.extend((column..=last).map(|column| Found { kind, row, column }));
+}
+
+/// A value of the kind that a cell takes, in range or not.
+fn matching_value(rng: &mut Rng, stream: &[u8], kind: u16) -> NewValue {
+    match kind {
+        kind::NUMBER | kind::RK | kind::MULRK => NewValue::Number(number(rng)),
+        kind::LABELSST => NewValue::Text(index(rng, stream)),
+        kind::BOOLERR if rng.percent(50) => NewValue::Truth(truth(rng)),
+        kind::BOOLERR => NewValue::Error(code(rng)),
+        _ => any_value(rng, stream),
+    }
+}
+
+fn any_value(rng: &mut Rng, stream: &[u8]) -> NewValue {
+    match rng.below(4) {
+        0 => NewValue::Number(number(rng)),
+        1 => NewValue::Text(index(rng, stream)),
+        2 => NewValue::Truth(truth(rng)),
+        _ => NewValue::Error(code(rng)),
+    }
+}
+
+fn truth(rng: &mut Rng) -> u8 {
+    rng.pick(&[0, 0, 1, 1, 2, 255])
+}
+
+fn code(rng: &mut Rng) -> u8 {
+    if rng.percent(65) {
+        rng.pick(&ERROR_CODES)
+    } else {
+        rng.byte()
+    }
+}
+
+fn index(rng: &mut Rng, stream: &[u8]) -> u32 {
+    let unique = unique_strings(stream);
+    match rng.below(8) {
+        0 => unique,
+        1 => rng.pick(&[0, 0x1_0000, 0x7FFF_FFFF, u32::MAX]),
+        _ => rng.below(unique.clamp(1, 100_000) as usize) as u32,
+    }
+}
+
+/// Numbers that pack in either form, that don't, and that are none.
+fn number(rng: &mut Rng) -> f64 {
+    const EDGES: [f64; 16] = [
+        0.0,
+        -0.0,
+        1.0,
+        -1.0,
+        0.1,
+        0.01,
+        536_870_911.0,
+        536_870_912.0,
+        536_870_913.0,
+        -536_870_911.0,
+        -536_870_912.0,
+        -536_870_913.0,
+        1_234_321.5,
+        f64::INFINITY,
+        f64::NEG_INFINITY,
+        f64::NAN,
+    ];
+    match rng.below(8) {
+        0..=1 => rng.pick(&EDGES),
+        2 => f64::from(rng.long() as i32 >> 2),
+        3 => f64::from_bits(rng.next() >> 34 << 34),
+        4 => f64::from(rk_word(rng) as i32) / 100.0,
+        5 => (rng.below(2_000_000) as f64) - 1_000_000.0,
+        _ => f64::from_bits(number_bits(rng)),
+    }
+}

@@ -1,0 +1,228 @@
+//! The makers and the second reader, each tested against the other.
+
+use second_reader::{self as reader, FormulaResult, Reading, Refusal, Value};
+use streams::{Content, Contents, NewValue};
+
+const SEEDS: u64 = 20_000;
+
+fn value_of(content: &Content) -> Value {
+    match *content {
+        Content::Blank => Value::Blank,
+        Content::Number(bits) => Value::Number(bits),
+        Content::Packed(word) => Value::Number(reader::decode_rk(word).expect("a meaning")),
+        Content::Text(index) => Value::Text(index),
+        Content::Truth(truth) => Value::Truth(truth),
+        Content::Error(code) => Value::Error(code),
+        Content::Formula(field, _) => Value::Formula(match field {
+            [0, .., 0xFF, 0xFF] => FormulaResult::Text,
+            [1, _, truth, .., 0xFF, 0xFF] => FormulaResult::Truth(truth),
+            [2, _, code, .., 0xFF, 0xFF] => FormulaResult::Error(code),
+            [_, .., 0xFF, 0xFF] => FormulaResult::Empty,
+            bits => FormulaResult::Number(u64::from_le_bytes(bits)),
+        }),
+    }
+}
+
+fn assert_same(stream: &[u8], reading: &Reading, contents: &Contents) {
+    assert_eq!(reading.strings, contents.strings);
+    assert_eq!(reading.sheets.len(), contents.sheets.len());
+    for (sheet, made) in reading.sheets.iter().zip(&contents.sheets) {
+        assert_eq!(stream[sheet.name.clone()], made.name);
+        assert_eq!(sheet.wide, made.wide);
+        assert_eq!(sheet.sheet_type as u8, made.sheet_type);
+        assert_eq!(sheet.cells.len(), made.cells.len());
+        let rows = made.cells.iter().map(|cell| u32::from(cell.row) + 1).max();
+        assert_eq!(sheet.rows, rows.unwrap_or(0));
+        for (cell, made) in sheet.cells.iter().zip(&made.cells) {
+            let address = (cell.row, cell.column, cell.format);
+            assert_eq!(address, (made.row, made.column, made.format));
+            assert_eq!(cell.value, value_of(&made.value));
+            let tokens = match &made.value {
+                Content::Formula(_, tokens) => &tokens[..],
+                _ => &[],
+            };
+            assert_eq!(&stream[cell.tokens.clone()], tokens);
+        }
+    }
+}
+
+#[test]
+fn valid_streams_are_read_as_they_were_made() {
+    for seed in 0..SEEDS {
+        let (stream, contents) = streams::valid_with_contents(seed);
+        assert_eq!(stream, streams::valid(seed));
+        assert!(stream.len() <= streams::LONGEST, "{seed}: {}", stream.len());
+        match reader::read(&stream) {
+            Ok(reading) => assert_same(&stream, &reading, &contents),
+            Err(refusal) => panic!("seed {seed}: {refusal}"),
+        }
+    }
+}
+
+#[test]
+fn valid_formulas_are_accepted() {
+    for seed in 0..SEEDS {
+        let tokens = streams::valid_formula(seed);
+        assert_eq!(reader::judge(&tokens), Ok(()), "seed {seed}: {tokens:02X?}");
+    }
+}
+
+#[test]
+fn the_ways_of_reading_agree() {
+    for seed in 0..SEEDS {
+        let stream = streams::stream(seed);
+        assert!(stream.len() <= streams::LONGEST);
+        let passed = reader::check(&stream);
+        let reading = match (passed, reader::read(&stream)) {
+            (Ok(passed), Ok(reading)) => {
+                let cells: usize = reading.sheets.iter().map(|sheet| sheet.cells.len()).sum();
+                assert_eq!(passed.cells, cells as u64);
+                assert_eq!(passed.sheets, reading.sheets.len() as u64);
+                assert_eq!(passed.strings, reading.strings.len() as u64);
+                reading
+            }
+            (passed, reading) => {
+                let refusal = passed.unwrap_err();
+                assert_eq!(reading.unwrap_err(), refusal);
+                assert_eq!(reader::list_cells(&stream, 0, |_| ()), Err(refusal));
+                assert_eq!(reader::fetch(&stream, 0, &mut []), Err(refusal));
+                continue;
+            }
+        };
+        for (number, sheet) in reading.sheets.iter().enumerate() {
+            let mut cells = Vec::new();
+            reader::list_cells(&stream, number, |cell| cells.push(cell.clone())).unwrap();
+            assert_eq!(cells, sheet.cells);
+        }
+        for (index, string) in reading.strings.iter().enumerate().take(40) {
+            let mut buffer = vec![0xABCD; string.len() + 2];
+            let length = reader::fetch(&stream, index as u32, &mut buffer).unwrap();
+            assert_eq!(&buffer[..length], &string[..]);
+            assert_eq!(&buffer[length..], [0xABCD; 2]);
+            if let Some(short) = length.checked_sub(1) {
+                let mut buffer = vec![0xABCD; short];
+                let refusal = reader::fetch(&stream, index as u32, &mut buffer).unwrap_err();
+                assert_eq!((refusal.number, refusal.offset), (12, 0));
+                assert!(buffer.iter().all(|&unit| unit == 0xABCD));
+            }
+        }
+    }
+}
+
+fn asked(value: NewValue) -> reader::NewValue {
+    match value {
+        NewValue::Number(number) => reader::NewValue::Number(number),
+        NewValue::Text(index) => reader::NewValue::Text(index),
+        NewValue::Truth(truth) => reader::NewValue::Truth(truth),
+        NewValue::Error(code) => reader::NewValue::Error(code),
+    }
+}
+
+fn expected(value: NewValue) -> Value {
+    match value {
+        NewValue::Number(number) => Value::Number(number.to_bits()),
+        NewValue::Text(index) => Value::Text(index),
+        NewValue::Truth(truth) => Value::Truth(truth),
+        NewValue::Error(code) => Value::Error(code),
+    }
+}
+
+#[test]
+fn a_correction_changes_one_cell_and_a_refusal_nothing() {
+    let mut granted = 0;
+    for seed in 0..SEEDS {
+        let before = streams::stream(seed);
+        let ask = streams::correction(seed, &before);
+        let mut after = before.clone();
+        let value = asked(ask.value);
+        let answer = reader::correct(&mut after, ask.sheet, ask.row, ask.column, value);
+        if answer.is_err() {
+            assert_eq!(before, after);
+            continue;
+        }
+        granted += 1;
+        let mut reading = reader::read(&before).unwrap();
+        let cell = reading.sheets[ask.sheet as usize]
+            .cells
+            .iter_mut()
+            .find(|cell| (u32::from(cell.row), u32::from(cell.column)) == (ask.row, ask.column));
+        cell.expect("a cell").value = expected(ask.value);
+        assert_eq!(reader::read(&after), Ok(reading));
+    }
+    assert!(granted > SEEDS / 20, "{granted}");
+}
+
+#[test]
+fn every_refusal_is_met() {
+    let mut met = [0; 19];
+    let mut meet = |refusal: Refusal| met[usize::from(refusal.number)] += 1;
+    for seed in 0..SEEDS {
+        let mut stream = streams::stream(seed);
+        let sheet = streams::sheet(seed, &stream) as usize;
+        let fetch = streams::fetch(seed, &stream);
+        let mut buffer = vec![0; fetch.units];
+        let ask = streams::correction(seed, &stream);
+        let answers = [
+            reader::list_cells(&stream, sheet, |_| ()),
+            reader::fetch(&stream, fetch.index, &mut buffer).map(|_| ()),
+            reader::correct(
+                &mut stream,
+                ask.sheet,
+                ask.row,
+                ask.column,
+                asked(ask.value),
+            ),
+            reader::judge(&streams::formula(seed)),
+        ];
+        answers
+            .into_iter()
+            .filter_map(Result::err)
+            .for_each(&mut meet);
+    }
+    for (number, &times) in met.iter().enumerate().skip(2) {
+        assert!(times > SEEDS / 500, "{number}: {times}");
+    }
+}
+
+#[test]
+fn the_same_seed_gives_the_same() {
+    let mut differing = 0;
+    for seed in 0..500 {
+        let stream = streams::stream(seed);
+        assert_eq!(stream, streams::stream(seed));
+        assert_eq!(streams::formula(seed), streams::formula(seed));
+        let fetch = streams::fetch(seed, &stream);
+        assert_eq!(fetch, streams::fetch(seed, &stream));
+        differing += u32::from(stream != streams::stream(seed + 1));
+    }
+    assert!(differing > 490);
+}
+
+#[test]
+fn large_streams_are_valid_and_of_their_size() {
+    for kind in streams::Big::ALL {
+        for bytes in [200, 1_000, 20_011, 300_000] {
+            let stream = streams::big(kind, bytes);
+            assert_eq!(stream.len(), bytes);
+            let passed = reader::check(&stream).unwrap_or_else(|r| panic!("{kind:?} {bytes}: {r}"));
+            let tail = stream.iter().rev().take_while(|&&byte| byte == 0).count();
+            assert!(
+                tail < 2_000 && (bytes < 9_000 || passed.sheets > 0),
+                "{kind:?}: {tail}"
+            );
+        }
+    }
+}
+
+#[test]
+fn the_longest_stream_is_accepted_and_one_byte_more_is_not() {
+    for seed in 0..9 {
+        let stream = streams::longest(seed);
+        let refused = reader::check(&stream).err();
+        let too_long = Refusal {
+            number: 1,
+            offset: 0,
+        };
+        assert_eq!(refused == Some(too_long), stream.len() > 16_777_216);
+    }
+}
