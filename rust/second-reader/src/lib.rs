@@ -5,10 +5,10 @@
 //! refusal carries the number and the offset that the rules give, and nothing
 //! else decides what is accepted.
 //!
-//! The work is done in two steps. [`survey`](mod@survey) walks the whole stream
-//! once and judges all of it; what it keeps is where things stand (sheets,
-//! substreams, string table). Everything that is handed out afterwards is read
-//! again from the places it kept.
+//! The work is done in two steps. A survey walks the whole stream once and
+//! judges all of it; what it keeps is where things stand (sheets, substreams,
+//! string table). Everything that is handed out afterwards is read again from
+//! the places it kept.
 
 #![forbid(unsafe_code)]
 #![warn(missing_docs)]

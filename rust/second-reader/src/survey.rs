@@ -78,8 +78,8 @@ impl<'a> Survey<'a> {
         Ok(&self.substreams[number])
     }
 
-    /// Hands over the cells of a sheet. All of it was judged by the walk, so
-    /// only what tells records apart is looked at again.
+    /// Hands over the cells of a sheet. All of them were judged by the walk, so
+    /// past the sheet's number nothing is refused any more.
     #[inline]
     pub fn list<F: FnMut(&Cell)>(&self, sheet: usize, mut take: F) -> Result<(), Refusal> {
         let substream = self.substream(sheet)?;

@@ -48,12 +48,7 @@ struct Found {
 }
 
 pub(crate) fn correction(rng: &mut Rng, stream: &[u8]) -> Correction {
-    let sheets = sheet_positions(stream);
-    let sheet = asked_sheet(rng, sheets.len());
-    let cells = match sheets.get(sheet as usize) {
-        Some(&position) => cells_from(stream, position as usize),
-        None => Vec::new(),
-    };
+    let (sheet, cells) = sheet_with_cells(rng, stream);
     if cells.is_empty() || rng.percent(4) {
         return Correction {
             sheet,
@@ -62,7 +57,7 @@ pub(crate) fn correction(rng: &mut Rng, stream: &[u8]) -> Correction {
             value: any_value(rng, stream),
         };
     }
-    let cell = rng.pick(&cells);
+    let cell = pick_cell(rng, &cells);
     let (row, column) = beside(rng, u32::from(cell.row), u32::from(cell.column));
     let value = if rng.percent(85) {
         matching_value(rng, stream, cell.kind)
@@ -75,6 +70,35 @@ pub(crate) fn correction(rng: &mut Rng, stream: &[u8]) -> Correction {
         column,
         value,
     }
+}
+
+/// A sheet and its cells; one that has cells is looked for a few times.
+fn sheet_with_cells(rng: &mut Rng, stream: &[u8]) -> (u32, Vec<Found>) {
+    let sheets = sheet_positions(stream);
+    let mut tries = 3;
+    loop {
+        let sheet = asked_sheet(rng, sheets.len());
+        let cells = match sheets.get(sheet as usize) {
+            Some(&position) => cells_from(stream, position as usize),
+            None => Vec::new(),
+        };
+        if !cells.is_empty() || tries == 0 || sheets.len() < 2 {
+            return (sheet, cells);
+        }
+        tries -= 1;
+    }
+}
+
+/// A cell, more often one that takes a value than its share.
+fn pick_cell(rng: &mut Rng, cells: &[Found]) -> Found {
+    let mut cell = rng.pick(cells);
+    for _ in 0..3 {
+        if !matches!(cell.kind, kind::BLANK | kind::MULBLANK | kind::FORMULA) {
+            break;
+        }
+        cell = rng.pick(cells);
+    }
+    cell
 }
 
 /// The address itself, or at times one that is cut down to it or next to it.
