@@ -19,8 +19,8 @@ use Rattle.globals.specs.declared.Globals.{Globals}
 use Rattle.globals.specs.Sheets.{sheetsOf}
 use Rattle.workbook.specs.Check.{checkedOf, onChecked}
 use Rattle.reading.specs.Reading.{listedOf}
-use Rattle.correction.specs.declared.Answer.{Answer}
-use Rattle.correction.specs.declared.Answer.the-variants.{Granted, Refused}
+use Rattle.change.specs.declared.Answer.{Answer}
+use Rattle.change.specs.declared.Answer.the-variants.{Granted, Refused}
 
 -- what a correction comes to: a refusal, or a number for the value field of this kind at this place
 pub data Correction : Type 0 where

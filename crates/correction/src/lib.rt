@@ -1,7 +1,220 @@
 // Correct one cell of a sheet in place.
+ghost use mathlib.Core.Path.{_≡_};
+ghost use Prim.Native.Nat.{_+_, _*_, _≤_};
+ghost use lib.ListN.{length};
+ghost use Rattle.cell.specs.Cells.{shapeOf, fieldOf, partOf, startOf};
+ghost use Rattle.reading.specs.Cells.{placeAt, listedFrom};
+ghost use Rattle.correction.specs.Correction.{cellsAt, correctionOf, answerOf, streamAfter};
+ghost use Rattle.correction.specs.Parts.{targetOf, withOne, inRow, fieldOfCell, metOf, onTarget, aimOf, TargetWithin, AimWithin};
+use change::Answer;
+use change::NewValue;
+use listing::Sought;
+use scan::Outside;
+use scan::Scanned;
+use value::Field;
+use workbook::Checked;
 
-// The answer to a correction.
-pub enum Answer {
-    Granted,
+// The cells of an address: none, one with its value field, or more.
+pub enum Target {
+    None,
+    One { kind: Field, field: usize },
+    Many,
+}
+
+// What a correction is aimed at: the value field of the one cell, and the unique count of strings.
+pub enum Aim {
+    At {
+        kind: Field,
+        field: usize,
+        unique: u32,
+    },
     Refused { number: u8, offset: usize },
+}
+
+fn field_kind(id: u16) -> Field
+    ensures { λ r. ⌜ r ≡ fieldOf (shapeOf id) ⌝ }
+{
+    match id {
+        0x0201 => Field::NoField,
+        0x0203 => Field::Float,
+        0x027E => Field::RkWord,
+        0x00FD => Field::TextIndex,
+        0x0205 => Field::TruthError,
+        0x00BD => Field::RkWord,
+        0x00BE => Field::NoField,
+        0x0006 => Field::StoredResult,
+        _ => Field::NoField,
+    }
+}
+
+fn part_size(kind: Field) -> usize
+    ensures { λ r. ⌜ r ≡ partOf kind ⌝ }
+{
+    match kind {
+        Field::NoField => 2,
+        Field::Float => 10,
+        Field::RkWord => 6,
+        Field::TextIndex => 6,
+        Field::TruthError => 4,
+        Field::StoredResult => 18,
+    }
+}
+
+fn field_start(kind: Field) -> usize
+    ensures { λ r. ⌜ r ≡ startOf kind ⌝ }
+{
+    match kind {
+        Field::NoField => 0,
+        Field::Float => 2,
+        Field::RkWord => 2,
+        Field::TextIndex => 2,
+        Field::TruthError => 2,
+        Field::StoredResult => 2,
+    }
+}
+
+// The value field of the k-th cell of the record at `at`.
+fn field_at(id: u16, at: usize, k: usize) -> Target
+    requires { ⌜ (at ≤ 16777216) × (k ≤ 256) ⌝ }
+    ensures { λ r. ⌜ r ≡ fieldOfCell id at k ⌝ }
+{
+    let kind = field_kind(id);
+    let field = at + 8 + k * part_size(kind) + field_start(kind);
+    Target::One { kind, field }
+}
+
+fn in_row(here: u16, first: u16, count: u16, row: u32, column: u32) -> bool
+    requires { ⌜ count ≤ 256 ⌝ }
+    ensures { λ r. ⌜ r ≡ inRow here first count row column ⌝ }
+{
+    if le::u16_as_u32(here) != row {
+        return false;
+    }
+    let left = le::u16_as_u32(first);
+    if column < left {
+        return false;
+    }
+    if column < left + le::u16_as_u32(count) {
+        return true;
+    }
+    false
+}
+
+fn with_one(found: Target, one: Target) -> Target
+    ensures { λ r. ⌜ r ≡ withOne found one ⌝ }
+{
+    match found {
+        Target::None => one,
+        Target::One { kind: _, field: _ } => Target::Many,
+        Target::Many => Target::Many,
+    }
+}
+
+// What was found, with the cell of the address in this row, if it has one.
+fn met(found: Target, id: u16, at: usize, here: u16, first: u16, count: u16, row: u32, column: u32) -> Target
+    requires { ⌜ (count ≤ 256) × (at ≤ 16777216) ⌝ }
+    ensures { λ r. ⌜ r ≡ metOf found id at here first count row column ⌝ }
+{
+    if in_row(here, first, count, row, column) {
+        let k = le::u32_as_usize(column - le::u16_as_u32(first));
+        return with_one(found, field_at(id, at, k));
+    }
+    found
+}
+
+// The cells of an address, in the listing that starts at the record at `from`.
+fn find(s: &[u8], from: usize, row: u32, column: u32) -> Target
+    requires { ⌜ length (now s) ≤ 16777216 ⌝ }
+    ensures { λ r. ⌜ r ≡ targetOf (cellsAt row column (listedFrom (now (s .entry)) (placeAt from 0))) ⌝ }
+    ensures { λ r. ⌜ TargetWithin (length (now (s .entry))) r ⌝ }
+{
+    let mut at = from;
+    let mut level: u8 = 0;
+    let mut found = Target::None;
+    loop {
+        match scan::scan(s, at, level) {
+            Scanned::Cells {
+                id,
+                row: here,
+                first,
+                count,
+                next,
+            } => {
+                found = met(found, id, at, here, first, count, row, column);
+                at = next;
+            }
+            Scanned::None(o) => match o {
+                Outside::Next {
+                    at: next,
+                    level: inner,
+                } => {
+                    at = next;
+                    level = inner;
+                }
+                Outside::End => {
+                    return found;
+                }
+            },
+        }
+    }
+}
+
+fn on_target(found: Target, unique: u32) -> Aim
+    ensures { λ r. ⌜ r ≡ onTarget unique found ⌝ }
+{
+    match found {
+        Target::None => Aim::Refused {
+            number: 11,
+            offset: 0,
+        },
+        Target::One { kind, field } => Aim::At {
+            kind,
+            field,
+            unique,
+        },
+        Target::Many => Aim::Refused {
+            number: 16,
+            offset: 0,
+        },
+    }
+}
+
+// The one cell of an address in a sheet.
+fn aim_at(s: &[u8], sheet: u32, row: u32, column: u32) -> Aim
+    ensures { λ r. ⌜ r ≡ aimOf (now (s .entry)) sheet row column ⌝ }
+    ensures { λ r. ⌜ AimWithin (length (now (s .entry))) r ⌝ }
+{
+    match workbook::check_with(s, 0) {
+        Checked::Wrong { number, offset } => Aim::Refused { number, offset },
+        Checked::Right(g) => match listing::find_sheet(s, sheet) {
+            Sought::Absent => Aim::Refused {
+                number: 11,
+                offset: 0,
+            },
+            Sought::Sheet {
+                header: _,
+                position,
+                kind,
+            } => {
+                let start = listing::start_of(s, position, kind);
+                let found = find(s, start.at, row, column);
+                on_target(found, g.unique)
+            }
+        },
+    }
+}
+
+// Correct a cell: the value goes into its value field, and no other byte changes; on a refusal none does.
+pub fn correct(s: &mut [u8], sheet: u32, row: u32, column: u32, value: NewValue) -> Answer
+    ensures { λ r. ⌜ r ≡ answerOf (correctionOf (now (s .entry)) sheet row column value) ⌝ }
+    ensures { λ r. ⌜ now (s .exit) ≡ streamAfter (now (s .entry)) (correctionOf (now (s .entry)) sheet row column value) ⌝ }
+{
+    match aim_at(&s[..], sheet, row, column) {
+        Aim::Refused { number, offset } => Answer::Refused { number, offset },
+        Aim::At {
+            kind,
+            field,
+            unique,
+        } => change::write_value(s, kind, field, value, unique),
+    }
 }

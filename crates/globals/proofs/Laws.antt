@@ -70,7 +70,7 @@ by-bound s at y i j g = g ∙ ap (onBound s at) (sym j ∙ i)
 pub ruleset answers = (by-table, second-table, by-header, by-first, by-bound)
 
 -- ---- a step goes at least a header ahead and stays within the stream
-abbrev Ahead : List ℕ → Globals → Step → Type 0
+abbrev pub Ahead : List ℕ → Globals → Step → Type 0
 Ahead s v (More w) = (v .at + 4 ≤ w .at) × (w .at ≤ length s)
 Ahead s v (Close w) = (v .at + 4 ≤ w .at) × (w .at ≤ length s)
 Ahead s v (Stop n o) = Unit {0}
@@ -100,16 +100,16 @@ ahead-header s v (Record t z e) h = ahead-record s v t z e (whole s (v .at) t z 
 ahead-header s v Cut h = tt
 ahead-header s v End h = tt
 
-step-ahead : (s : List ℕ) (v : Globals) (x : Step) → x ≡ stepOf s v → Ahead s v x
+pub step-ahead : (s : List ℕ) (v : Globals) (x : Step) → x ≡ stepOf s v → Ahead s v x
 unfolding stepOf
 step-ahead s v x e = subst⁻¹ (Ahead s v) e (ahead-header s v (headerAt s (v .at)) refl)
 
 -- ---- the walk
 module _ (s : List ℕ) where
-  abbrev go : Globals → Next Globals Ended
+  abbrev pub go : Globals → Next Globals Ended
   go v = turn (stepOf s v)
 
-  abbrev left : Globals → ℕ
+  abbrev pub left : Globals → ℕ
   left v = length s - v .at
 
   by-step : (v : Globals) {r : Step} → r ≡ stepOf s v → (x : Step) → r ≡ x → go v ≡ turn x
@@ -120,7 +120,7 @@ module _ (s : List ℕ) where
   falls-by v w (Close u) h e = absurd (let z : _≡_ {A = ℕ} 0 1 = cc in omega arith)
   falls-by v w (Stop n o) h e = absurd (let z : _≡_ {A = ℕ} 0 1 = cc in omega arith)
 
-  falls : (v w : Globals) → go v ≡ more w → left w < left v
+  pub falls : (v w : Globals) → go v ≡ more w → left w < left v
   falls v w h = falls-by v w (stepOf s v) refl h
 
   module _ (v₀ v : Globals) (r : Step) (is : r ≡ stepOf s v) where

@@ -18,7 +18,7 @@ use Rattle.globals.specs.declared.Bound.the-variants as bound
 use Rattle.globals.specs.Sheets.{sheetAt, onBound, boundAt, sheetItem, sheetsFrom}
 
 -- the record lies ahead, within the stream
-abbrev Next-bound : List ℕ → ℕ → Bound → Type 0
+abbrev pub Next-bound : List ℕ → ℕ → Bound → Type 0
 Next-bound s p (bound.Sheet h q k n) = (p < n) × (n ≤ length s) × (h + 12 ≤ length s)
 Next-bound s p (bound.Other n) = (p < n) × (n ≤ length s)
 Next-bound s p bound.Done = Unit {0}
@@ -31,11 +31,11 @@ bound-by s p (Record k z e) h =
 bound-by s p Cut h = tt
 bound-by s p End h = tt
 
-next-bound : (s : List ℕ) (p : ℕ) → Next-bound s p (boundAt s p)
+pub next-bound : (s : List ℕ) (p : ℕ) → Next-bound s p (boundAt s p)
 unfolding boundAt
 next-bound s p = bound-by s p (headerAt s p) refl
 
-sheet-near : (s : List ℕ) (p : ℕ) (x : Bound) → Next-bound s p x → Nearer (λ p. length s - p) p (sheetItem x)
+pub sheet-near : (s : List ℕ) (p : ℕ) (x : Bound) → Next-bound s p x → Nearer (λ p. length s - p) p (sheetItem x)
 sheet-near s p (bound.Sheet h q k n) w = omega arith
 sheet-near s p (bound.Other n) w = omega arith
 sheet-near s p bound.Done w = tt

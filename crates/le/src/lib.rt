@@ -30,6 +30,12 @@ pub fn byte_as_usize(x: u8) -> usize
     x as usize
 }
 
+pub fn u16_as_u32(x: u16) -> u32
+    ensures { λ r. ⌜ (r ≡ x) × (r < 65536) ⌝ }
+{
+    x as u32
+}
+
 pub fn u16_as_u64(x: u16) -> u64
     ensures { λ r. ⌜ (r ≡ x) × (r < 65536) ⌝ }
 {

@@ -136,7 +136,7 @@ pub fn next_cell(s: &[u8], from: Place) -> Listed
 }
 
 // Sheet n, counted from 0 in BOUNDSHEET order.
-fn find_sheet(s: &[u8], n: u32) -> Sought
+pub fn find_sheet(s: &[u8], n: u32) -> Sought
     ensures { λ r. ⌜ r ≡ nth (sheetsOf (now (s .entry))) n foundSheet Sought.Absent ⌝ }
     ensures { λ r. ⌜ SoughtWithin (length (now (s .entry))) r ⌝ }
 {
@@ -170,7 +170,7 @@ fn find_sheet(s: &[u8], n: u32) -> Sought
     }
 }
 
-fn start_of(s: &[u8], position: u32, kind: u32) -> Place
+pub fn start_of(s: &[u8], position: u32, kind: u32) -> Place
     ensures { λ r. ⌜ r ≡ startBy (length (now (s .entry))) position kind ⌝ }
 {
     if kind == 1 {

@@ -84,20 +84,20 @@ unfolding stepOf
 step-ahead s k u v x e = subst⁻¹ (Ahead s v) e (ahead-header s k u v (headerAt s (v .at)) refl)
 
 -- ---- the walk
-abbrev Inner : Type 0
+abbrev pub Inner : Type 0
 Inner = ℕ → Ended
 
 -- a substream has its BOF and its EOF
 abbrev pub Onward : Inner → List ℕ → Type 0
 Onward inner s = (b e : ℕ) → inner b ≡ At e → (b + 24 ≤ e) × (e ≤ length s)
 
-abbrev go : Inner → List ℕ → ℕ → ℕ → Here → Next Here Ended
+abbrev pub go : Inner → List ℕ → ℕ → ℕ → Here → Next Here Ended
 go inner s k u v = turn inner (stepOf s k u v)
 
-abbrev left : List ℕ → Here → ℕ
+abbrev pub left : List ℕ → Here → ℕ
 left s v = length s - v .at
 
-abbrev Gives : List ℕ → Here → Next Here Ended → Type 0
+abbrev pub Gives : List ℕ → Here → Next Here Ended → Type 0
 Gives s v (more w) = (v .at < w .at) × (w .at ≤ length s)
 Gives s v (stop a) = (e : ℕ) → a ≡ At e → (v .at + 4 ≤ e) × (e ≤ length s)
 
@@ -112,21 +112,21 @@ module _ (inner : Inner) (s : List ℕ) (on : Onward inner s) (k u : ℕ) where
   gives-by v (Close e) h = λ f j. let i = step-ahead s k u v (Close e) h in let m : e ≡ f = cc in omega arith
   gives-by v (Stop n o) h = λ e i. absurd (let z : _≡_ {A = ℕ} 0 1 = cc in omega arith)
 
-  gives : (v : Here) (x : Next Here Ended) → go inner s k u v ≡ x → Gives s v x
+  pub gives : (v : Here) (x : Next Here Ended) → go inner s k u v ≡ x → Gives s v x
   gives v x h = rw h at (gives-by v (stepOf s k u v) refl)
 
-  falls : (v w : Here) → go inner s k u v ≡ more w → left s w < left s v
+  pub falls : (v w : Here) → go inner s k u v ≡ more w → left s w < left s v
   falls v w h = let g = gives v (more w) h in omega arith
 
-  from-more : (v w : Here) → go inner s k u v ≡ more w → recordsFrom inner s k u v ≡ recordsFrom inner s k u w
+  pub from-more : (v w : Here) → go inner s k u v ≡ more w → recordsFrom inner s k u v ≡ recordsFrom inner s k u w
   unfolding recordsFrom
   from-more v w h = run-more (go inner s k u) (Refused 4 (length s)) (left s) falls h
 
-  from-stop : (v : Here) (a : Ended) → go inner s k u v ≡ stop a → recordsFrom inner s k u v ≡ a
+  pub from-stop : (v : Here) (a : Ended) → go inner s k u v ≡ stop a → recordsFrom inner s k u v ≡ a
   unfolding recordsFrom
   from-stop v a h = run-stop (go inner s k u) (Refused 4 (length s)) (left s) falls h
 
-  from-onward : (v : Here) (e : ℕ) → recordsFrom inner s k u v ≡ At e → (v .at + 4 ≤ e) × (e ≤ length s)
+  pub from-onward : (v : Here) (e : ℕ) → recordsFrom inner s k u v ≡ At e → (v .at + 4 ≤ e) × (e ≤ length s)
   unfolding recordsFrom
   from-onward v e h =
       run-keeps (go inner s k u) (Refused 4 (length s)) (left s) falls (λ w. v .at ≤ w .at) (λ a. a ≡ At e → (v .at + 4 ≤ e) × (e ≤ length s))

@@ -80,7 +80,7 @@ found-is j k e h = ap (λ (x : ℕ). found.Bof x e) h
 pub ruleset answers = (by-zeros, by-header, kind-none, kind-some, by-open, by-top, found-is)
 
 -- ---- a BOF that is opened is whole and of a kind that may stand there
-abbrev Opens : List ℕ → ℕ → Top → Type 0
+abbrev pub Opens : List ℕ → ℕ → Top → Type 0
 Opens s at (Open k) = (at + 20 ≤ length s) × (bofKind k ≡ 0 → ⊥)
 Opens s at Done = Unit {0}
 Opens s at (Stop n o) = Unit {0}
@@ -96,7 +96,7 @@ opens-header s at (Record t z e) h =
 opens-header s at Cut h = tt
 opens-header s at End h = tt
 
-opens : (s : List ℕ) (at : ℕ) (x : Top) → x ≡ topOf s at → Opens s at x
+pub opens : (s : List ℕ) (at : ℕ) (x : Top) → x ≡ topOf s at → Opens s at x
 unfolding topOf
 opens s at x e = subst⁻¹ (Opens s at) e (pick-any (Opens s at) _ tt (opens-header s at (headerAt s at) refl))
 
@@ -105,19 +105,19 @@ room-open s at k is h = opens s at (Open k) (sym h ∙ is) .0
 
 -- ---- the walk
 module _ (s : List ℕ) (u : ℕ) where
-  abbrev go : ℕ → Next ℕ Walked
+  abbrev pub go : ℕ → Next ℕ Walked
   go at = turn s u at (topOf s at)
 
   falls-back : (at e k : ℕ) (a : Ended) → substreamIn 4 s u k at ≡ a → back a ≡ more e → (at + 24 ≤ e) × (e ≤ length s)
   falls-back at e k (ended.At f) h i = let j : f ≡ e = cc in let g = onward 4 s u k at f h in omega arith
   falls-back at e k (ended.Refused n o) h i = absurd (let z : _≡_ {A = ℕ} 0 1 = cc in omega arith)
 
-  falls-by : (at e : ℕ) (x : Top) → turn s u at x ≡ more e → (at + 24 ≤ e) × (e ≤ length s)
+  pub falls-by : (at e : ℕ) (x : Top) → turn s u at x ≡ more e → (at + 24 ≤ e) × (e ≤ length s)
   falls-by at e (Open k) h = falls-back at e k (substreamIn 4 s u k at) refl h
   falls-by at e Done h = absurd (let z : _≡_ {A = ℕ} 0 1 = cc in omega arith)
   falls-by at e (Stop n o) h = absurd (let z : _≡_ {A = ℕ} 0 1 = cc in omega arith)
 
-  falls : (at e : ℕ) → go at ≡ more e → length s - e < length s - at
+  pub falls : (at e : ℕ) → go at ≡ more e → length s - e < length s - at
   falls at e h = let g = falls-by at e (topOf s at) h in omega arith
 
   module _ (from at : ℕ) (r : Top) (is : r ≡ topOf s at) where
@@ -170,11 +170,11 @@ apart-by s u at (Open k) e = apart-ended s u at k (opens s at (Open k) e .1) (su
 apart-by s u at Done e = tt
 apart-by s u at (Stop n o) e = tt
 
-apart : (s : List ℕ) (u at : ℕ) → Apart s at (bofAt s u at)
+pub apart : (s : List ℕ) (u at : ℕ) → Apart s at (bofAt s u at)
 unfolding bofAt
 apart s u at = apart-by s u at (topOf s at) refl
 
-bof-near : (s : List ℕ) (at : ℕ) (x : Found) → Apart s at x → Nearer (λ at. length s - at) at (bofItem at x)
+pub bof-near : (s : List ℕ) (at : ℕ) (x : Found) → Apart s at x → Nearer (λ at. length s - at) at (bofItem at x)
 bof-near s at (found.Bof k e) i = omega arith
 bof-near s at found.None i = tt
 

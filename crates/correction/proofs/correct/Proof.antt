@@ -1,0 +1,25 @@
+use Rattle.correction.proofs.Laws.{correct-laws}
+use borrow.Author.Needs.{needs}
+use Rattle.correction.proofs.correct.Statement.{statement}
+use Rattle.correction.proofs.correct.Tie as tie
+
+pub correct-spec : {M : Type 1} → statement M
+correct-spec =
+    tie.close
+    (tie.spec
+    -- aim-at-requires
+    (λ c κs. search needs)
+    -- enum-known-number
+    (λ c. search needs)
+    -- enum-known-kind
+    (λ c. search needs)
+    -- write-value-requires
+    (λ c κs. search (correct-laws, needs))
+    -- same-length
+    (λ c. search needs)
+    -- returns
+    (λ c. search (correct-laws, needs))
+    -- same-length-2
+    (λ c. search needs)
+    -- returns-2
+    (λ c. search (correct-laws, needs)))
