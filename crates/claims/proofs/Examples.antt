@@ -8,8 +8,11 @@ use Rattle.number.specs.Packing.{packOf, wholeForm}
 use Rattle.functions.specs.Counts.{countsOf}
 use Rattle.formula.specs.Tokens.{operandOf, wholeOf, textOf, attributeOf, baseOf, columnClear, referenceOf, areaOf, fixedOf, variableOf, memoryOf, innerOf, classifiedOf, tokenOf}
 use Rattle.formula.specs.Judge.{atEnd, formulaOf, judgeOf}
+use Rattle.record.specs.Record.{headerAt}
+use Rattle.segments.specs.Segments.{continues, nextSegment, filled, need, room, items}
+use Rattle.strings.specs.Table.{runsAt, phoneticAt, headAt, startSize, head, rest, stringAt, nextPlace, strings, tableOf}
 use Rattle.claims.specs.Examples.{examples, AllAnswered}
 
 pub all-answered : AllAnswered
-unfolding examples pick numAt rounded digits rkBits quotientBits rkSign rkSize meansNothing packOf wholeForm operandOf wholeOf textOf attributeOf baseOf columnClear referenceOf areaOf fixedOf variableOf memoryOf innerOf classifiedOf tokenOf atEnd formulaOf judgeOf
+unfolding examples pick numAt rounded digits rkBits quotientBits rkSign rkSize meansNothing packOf wholeForm operandOf wholeOf textOf attributeOf baseOf columnClear referenceOf areaOf fixedOf variableOf memoryOf innerOf classifiedOf tokenOf atEnd formulaOf judgeOf headerAt continues nextSegment filled need room items runsAt phoneticAt headAt startSize head rest stringAt nextPlace strings tableOf
 all-answered = refl

@@ -1,9 +1,10 @@
 -- The worked examples of document 01 that are marked to be proved: one table of questions with their answers.
-use Prim.Native.Nat.{ℕ, _*_, _/_, _^_}
+use Prim.Native.Nat.{ℕ, _+_, _*_, _/_, _^_}
 use mathlib.Core.Path.{_≡_}
-use mathlib.Core.List.{List, [], _∷_, map}
+use mathlib.Core.List.{List, [], _∷_, _++_, map}
 use mathlib.Core.Bool.{Bool, true, false}
 use Rattle.walk.specs.Choice.{pick}
+use Rattle.le.specs.Bytes.{u16At}
 use Rattle.number.specs.Rounding.{rounded, signed}
 use Rattle.number.specs.Rk.{rkBits, meansNothing}
 use Rattle.number.specs.Packing.{packOf}
@@ -12,18 +13,21 @@ use Rattle.number.specs.declared.Packed.the-variants.{Word, Unpacked}
 use Rattle.formula.specs.declared.Judgement.{Judgement}
 use Rattle.formula.specs.declared.Judgement.the-variants.{Accepted, Refused}
 use Rattle.formula.specs.Judge.{judgeOf}
+use Rattle.strings.specs.Table.{stringsOf}
 
--- what an RK word means, how the number n / d is packed, how a formula's bytes are judged
+-- what an RK word means, how the number n / d is packed, how a formula's bytes are judged, which strings an SST and its CONTINUEs hold
 pub data Question : Type 0 where
   rkWord : ℕ → Question
   packing : ℕ → ℕ → Question
   formula : List ℕ → Question
+  strings : List ℕ → Question
 
 pub data Answer : Type 0 where
   number : ℕ → Answer
   nothing : Answer
   word : ℕ → Answer
   accepted : Answer
+  units : List (List ℕ) → Answer
   refused : ℕ → ℕ → Answer
 
 -- the 64 bits of n / d, and of its negative
@@ -46,6 +50,7 @@ abbrev pub answerOf : Question → Answer
 answerOf (rkWord w) = pick (meansNothing w) nothing (number (rkBits w))
 answerOf (packing n d) = packed (packOf (quotient n d))
 answerOf (formula b) = judged (judgeOf b)
+answerOf (strings b) = units (stringsOf b 0 (4 + u16At b 2))
 
 pub record Example : Type 0 where
   pub question : Question
@@ -54,6 +59,13 @@ pub record Example : Type 0 where
 infixl 20 _⟶_
 abbrev pub _⟶_ : Question → Answer → Example
 _⟶_ q a = record { question = q; answer = a }
+
+-- two records, header and body
+abbrev pub sst : List ℕ
+sst = 0xFC ∷ 0x00 ∷ 0x0C ∷ 0x00 ∷ 0x01 ∷ 0x00 ∷ 0x00 ∷ 0x00 ∷ 0x01 ∷ 0x00 ∷ 0x00 ∷ 0x00 ∷ 0x02 ∷ 0x00 ∷ 0x00 ∷ 0x41 ∷ []
+
+abbrev pub continuation : List ℕ
+continuation = 0x3C ∷ 0x00 ∷ 0x03 ∷ 0x00 ∷ 0x01 ∷ 0xA9 ∷ 0x03 ∷ []
 
 unfoldable pub examples : List Example
 examples =
@@ -69,6 +81,7 @@ examples =
     ∷ (formula (0x03 ∷ []) ⟶ refused 14 0)
     ∷ (formula (0x1E ∷ 0x01 ∷ 0x00 ∷ 0x1E ∷ 0x01 ∷ 0x00 ∷ []) ⟶ refused 14 6)
     ∷ (formula (0x29 ∷ 0x03 ∷ 0x00 ∷ 0x1E ∷ 0x01 ∷ 0x00 ∷ []) ⟶ accepted)
+    ∷ (strings (sst ++ continuation) ⟶ units ((0x0041 ∷ 0x03A9 ∷ []) ∷ []))
     ∷ []
 
 -- the claim: each question has the answer that the table gives

@@ -249,8 +249,8 @@ module _ (s : List ℕ) (from row column at level : ℕ) (found : Target) (inv :
         let l = scanned-row .0 in
         let w = scanned-row .1 in (
           inv .0 ∙ ap (λ (m : ℕ). joined found (cellsAt row column (listedFrom s (placeAt at m)))) l
-          ∙ met-row s at id here first n next row column w found t e
-          ∙ ap (λ (m : ℕ). joined t (cellsAt row column (listedFrom s (placeAt next m)))) (sym l),
+              ∙ met-row s at id here first n next row column w found t e
+              ∙ ap (λ (m : ℕ). joined t (cellsAt row column (listedFrom s (placeAt next m)))) (sym l),
           subst (TargetWithin (length s)) (sym e) (met-in s at id here first n next row column w found (inv .1)),
         )
 

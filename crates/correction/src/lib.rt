@@ -28,7 +28,10 @@ pub enum Aim {
         field: usize,
         unique: u32,
     },
-    Refused { number: u8, offset: usize },
+    Refused {
+        number: u8,
+        offset: usize,
+    },
 }
 
 fn field_kind(id: u16) -> Field
@@ -111,7 +114,16 @@ fn with_one(found: Target, one: Target) -> Target
 }
 
 // What was found, with the cell of the address in this row, if it has one.
-fn met(found: Target, id: u16, at: usize, here: u16, first: u16, count: u16, row: u32, column: u32) -> Target
+fn met(
+    found: Target,
+    id: u16,
+    at: usize,
+    here: u16,
+    first: u16,
+    count: u16,
+    row: u32,
+    column: u32,
+) -> Target
     requires { ⌜ (count ≤ 256) × (at ≤ 16777216) ⌝ }
     ensures { λ r. ⌜ r ≡ metOf found id at here first count row column ⌝ }
 {

@@ -19,7 +19,7 @@ use Rattle.kept.proofs.Records.{parts-within}
 use Rattle.kept.proofs.Locality.{row-same, first-same, many-same, formula-same}
 
 -- ---- a part of the stream
-bytes-same : (s s′ : List ℕ) (p n : ℕ) → p + n ≤ length s → p + n ≤ length s′ → Same s s′ p (p + n) → take n (drop p s′) ≡ take n (drop p s)
+pub bytes-same : (s s′ : List ℕ) (p n : ℕ) → p + n ≤ length s → p + n ≤ length s′ → Same s s′ p (p + n) → take n (drop p s′) ≡ take n (drop p s)
 bytes-same s s′ p n h h′ a =
     let l : length (take n (drop p s)) ≡ n = length-take-le n (drop p s) (rw (length-drop p s) (omega arith)) in
     let l′ : length (take n (drop p s′)) ≡ n = length-take-le n (drop p s′) (rw (length-drop p s′) (omega arith)) in
@@ -58,7 +58,7 @@ module _ (s s′ : List ℕ) (at z : ℕ) where
       let inside : k * part + part ≤ multiple s at z part * part = rw suc-mul at (mul-le-mul-right part l) in
       many-same s s′ at z part (λ x i j. a x (omega arith) (omega arith)) (λ x i j. b x (omega arith) j)
 
-  count-kept : (h : Shape) (k : ℕ) → k < countOf h s at z → Same s s′ at (placeOf (fieldOf h) at k) → Same s s′ (placeOf (fieldOf h) at k + widthOf (fieldOf h)) (at + 4 + z) → countOf h s′ at z ≡ countOf h s at z
+  pub count-kept : (h : Shape) (k : ℕ) → k < countOf h s at z → Same s s′ at (placeOf (fieldOf h) at k) → Same s s′ (placeOf (fieldOf h) at k + widthOf (fieldOf h)) (at + 4 + z) → countOf h s′ at z ≡ countOf h s at z
   count-kept BLANK k l a b = refl
   count-kept NUMBER k l a b = refl
   count-kept RK k l a b = refl

@@ -17,10 +17,6 @@ use Rattle.cell.specs.declared.Cell.{Cell}
 use Rattle.cell.specs.Cells.{partOf, startOf, lengthAt, tokensAt, fieldAt, cellFrom, cellsFrom, fieldsFit}
 use Rattle.kept.specs.Claims.{revalued}
 
--- two constructors are never equal: `never (cc)`
-pub never : {A : Type 0} → _≡_ {A = ℕ} 0 1 → A
-never e = absurd (omega arith)
-
 -- ---- a value field lies in its part
 pub field-in : (f : Field) → startOf f + widthOf f ≤ partOf f
 field-in NoField = omega arith
@@ -90,7 +86,7 @@ module _ (s s′ : List ℕ) where
   format-same StoredResult q h i = num-same s s′ 2 q h
 
   module _ (f : Field) where
-    cell-other : (row column q : ℕ) → Same s s′ q (q + startOf f) → Same s s′ (q + startOf f + widthOf f) (q + partOf f) → cellFrom f s′ row column q ≡ revalued (cellFrom f s row column q) (valueOf f (fieldAt f s′ q))
+    pub cell-other : (row column q : ℕ) → Same s s′ q (q + startOf f) → Same s s′ (q + startOf f + widthOf f) (q + partOf f) → cellFrom f s′ row column q ≡ revalued (cellFrom f s row column q) (valueOf f (fieldAt f s′ q))
     unfolding cellFrom
     cell-other row column q h i =
         λ j. record { row = row; column = column; value = valueOf f (fieldAt f s′ q); tokens = sym (tokens-same f q i) j; format = sym (format-same f q h i) j; kind = f; field = q + startOf f }

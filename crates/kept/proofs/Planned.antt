@@ -9,7 +9,7 @@ use lib.Ieee as Ieee
 use lib.Ieee.{nan, inf, fin, binary64, fits, ofBits, toBits, isNan}
 use borrow.Author.Tests.{ne-eqb, eqb-false, le-ltb, ltb-true, ltb-false}
 use Rattle.walk.specs.Choice.{pick}
-use Rattle.walk.proofs.Choice.{pick-eq, pick-ne, pick-false}
+use Rattle.walk.proofs.Choice.{never, pick-eq, pick-ne, pick-false}
 use Rattle.boolerr.specs.Boolerr.{isTruth, isError}
 use Rattle.number.specs.Float64.{isNanBits, bitsOf}
 use Rattle.number.specs.Rk.{rkOf}
@@ -26,7 +26,6 @@ use Rattle.change.specs.declared.NewValue.the-variants.{Number, Text, Truth, Er
 use Rattle.change.specs.declared.Plan.the-variants.{Put, Refused}
 use Rattle.change.specs.Change.{putIf, finite, floatPlan, packedPlan, pairPlan, planOf, newOf}
 use Rattle.kept.specs.Claims.{Held, Says}
-use Rattle.kept.proofs.Fields.{never}
 
 refused-put : {A : Type 0} (number offset b : ℕ) → Refused number offset ≡ Put b → A
 refused-put number offset b e = never (cc)

@@ -9,7 +9,7 @@ use lib.ListN.{length, getD, drop}
 use lib.Dec.{ltb, eqb}
 use borrow.Author.Tests.{eqb-false, ltb-true, ltb-false}
 use Rattle.walk.specs.Choice.{pick}
-use Rattle.walk.proofs.Choice.{pick-ne, pick-lt, pick-nlt, pick-true}
+use Rattle.walk.proofs.Choice.{never, pick-ne, pick-lt, pick-nlt, pick-true}
 use Rattle.value.specs.declared.Field.{Field}
 use Rattle.value.specs.Value.{widthOf, indexFits}
 use Rattle.cell.specs.declared.Shape.{Shape}
@@ -21,7 +21,7 @@ use Rattle.cell.specs.declared.Found.the-variants.{There, Absent}
 use Rattle.cell.specs.Cells.{isCell, fieldOf, partOf, rowAt, firstAt, sized, multiple, lengthAt, countOf, fieldAt, cellFrom, cellsOf, cellOf, foundOf, fieldsFit, judged, judgeOf}
 use Rattle.cell.proofs.Sizes.{sized-below, multiple-below, formula-below}
 use Rattle.kept.specs.Claims.{Right, placeOf}
-use Rattle.kept.proofs.Fields.{never, field-in, cells-length, cells-drop, cells-nth}
+use Rattle.kept.proofs.Fields.{field-in, cells-length, cells-drop, cells-nth}
 
 -- ---- where the cells lie
 -- the parts of a record that has a k-th cell lie in its body, and its k-th column is at most 255 if its first is

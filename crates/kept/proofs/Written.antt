@@ -8,7 +8,7 @@ use native.Mathlib.Omega.{arith}
 use lib.ListN.{length, getD, set}
 use lib.Seq.{sets, length-sets}
 use Rattle.le.specs.Bytes.{numAt, bytesOf}
-use Rattle.le.proofs.Laws.{Same, sets-other, length-bytes, num-stored}
+use Rattle.le.proofs.Laws.{Same, stored-other, num-stored}
 use Rattle.value.specs.declared.CellValue.{CellValue}
 use Rattle.value.specs.Value.{widthOf, valueOf, valueFits, indexFits}
 use Rattle.cell.specs.declared.Shape.{Shape}
@@ -38,11 +38,7 @@ module _ (s : List ℕ) (h : Shape) (at z u n k : ℕ) (passed : judgeOf s h at 
 
   -- no byte outside the value field is changed
   pub written-else : (j : ℕ) → (j < placeOf (fieldOf h) at k) ⊎ (placeOf (fieldOf h) at k + widthOf (fieldOf h) ≤ j) → getD (putInto s h at k v u) j 0 ≡ getD s j 0
-  written-else j o = ap (λ (t : List ℕ). getD t j 0) after-is ∙ sets-other (bytesOf (widthOf (fieldOf h)) b) s (placeOf (fieldOf h) at k) j (go o)
-    where
-      go : (j < placeOf (fieldOf h) at k) ⊎ (placeOf (fieldOf h) at k + widthOf (fieldOf h) ≤ j) → (j < placeOf (fieldOf h) at k) ⊎ (placeOf (fieldOf h) at k + length (bytesOf (widthOf (fieldOf h)) b) ≤ j)
-      go (inl l) = inl l
-      go (inr l) = inr (rw (length-bytes (widthOf (fieldOf h)) b) l)
+  written-else j o = ap (λ (t : List ℕ). getD t j 0) after-is ∙ stored-other (widthOf (fieldOf h)) b s (placeOf (fieldOf h) at k) j o
 
   before : Same s (putInto s h at k v u) at (placeOf (fieldOf h) at k)
   before j i l = sym (written-else j (inl l))

@@ -37,6 +37,10 @@ sets-other [] s p k h = refl
 sets-other (v ∷ vs) s p k (inl h) = sets-other vs (set s p v) (suc p) k (inl (omega arith)) ∙ getD-set-other s p k v 0 (λ e. omega arith)
 sets-other (v ∷ vs) s p k (inr h) = sets-other vs (set s p v) (suc p) k (inr (omega arith)) ∙ getD-set-other s p k v 0 (λ e. omega arith)
 
+-- the bytes beside the w that are stored stay
+pub stored-other : (w n : ℕ) (s : List ℕ) (p k : ℕ) → (k < p) ⊎ (p + w ≤ k) → getD (sets s p (bytesOf w n)) k 0 ≡ getD s k 0
+stored-other w n s p k h = sets-other (bytesOf w n) s p k (rw (length-bytes w n) h)
+
 pub num-stored : (w n : ℕ) (s : List ℕ) (p : ℕ) → p + w ≤ length s → n < 256 ^ w → numAt (sets s p (bytesOf w n)) w p ≡ n
 unfolding numAt bytesOf
 num-stored zero n s p h f = omega arith

@@ -4,21 +4,19 @@ use mathlib.Core.Path.{_≡_, refl, sym, ap, _∙_, subst}
 use mathlib.Core.List.{List, [], _∷_}
 use native.Mathlib.Omega.{arith}
 use lib.ListN.{length, take, drop}
-use lib.Dec.{ltb, eqb}
-use Rattle.walk.specs.Choice.{pick}
-use Rattle.walk.proofs.Choice.{pick-eq, pick-ne, pick-lt, pick-nlt, refl′}
-use Rattle.walk.specs.Walk.{Next, more, stop, run}
-use Rattle.walk.proofs.Walk.{run-more, run-stop}
+use Rattle.walk.proofs.Choice.{pick-eq, pick-ne, pick-lt, pick-nlt, pick-le, pick-nle, refl′}
+use Rattle.walk.specs.Walk.{Next, more, stop}
+use Rattle.walk.proofs.Walk.{run-more, run-stop, run-keeps}
 use Rattle.walk.specs.Items.{Item, gives, skips, ends, onto, nth}
 use Rattle.walk.proofs.Items.{Nearer, nth-none, nth-here, nth-next}
 use Rattle.record.specs.declared.Header.{Header}
-use Rattle.record.specs.declared.Header.the-variants.{Record, Cut, End}
+use Rattle.record.specs.declared.Header.the-variants.{Record, End}
 use Rattle.record.specs.Record.{headerAt}
 use Rattle.record.proofs.Laws.{Whole, whole}
 use Rattle.cell.specs.declared.Cell.{Cell}
 use Rattle.cell.specs.declared.Found.{Found}
 use Rattle.cell.specs.declared.Found.the-variants.{There, Absent}
-use Rattle.cell.specs.Cells.{shapeOf, foundOf}
+use Rattle.cell.specs.Cells.{shapeOf, foundOf, tokensOf}
 use Rattle.sheetlist.specs.Agreement.{Sheet}
 use Rattle.globals.specs.declared.Bound.{Bound}
 use Rattle.globals.specs.declared.Bound.the-variants as bound
@@ -30,8 +28,11 @@ use Rattle.workbook.specs.declared.Checked.the-variants.{Right, Wrong}
 use Rattle.workbook.specs.Check.{checkedOf, onChecked}
 use Rattle.reading.specs.declared.Place.{Place}
 use Rattle.reading.specs.Cells.{placeAt, nextPart, otherItem, onFound, recordItem, onHeader, cellItem, remaining, listedFrom}
-use Rattle.reading.specs.Reading.{onName, nameAt, startBy, startOf}
+use Rattle.reading.specs.Reading.{onName, nameAt, widthAt, typeAt, startBy, startOf, listedOf, rowsOf}
 use Rattle.reading.proofs.Laws.{count-small, found-there, item-near, listed-step}
+use Rattle.listing.specs.declared.Description.{Description}
+use Rattle.listing.specs.declared.Description.the-variants as description
+use Rattle.listing.specs.declared.SheetList.the-variants as sheetList
 use Rattle.listing.specs.declared.Start.{Start}
 use Rattle.listing.specs.declared.Start.the-variants as start
 use Rattle.listing.specs.declared.Listed.{Listed}
@@ -40,7 +41,7 @@ use Rattle.listing.specs.declared.Step.{Step}
 use Rattle.listing.specs.declared.Step.the-variants as step
 use Rattle.listing.specs.declared.Sought.{Sought}
 use Rattle.listing.specs.declared.Sought.the-variants as sought
-use Rattle.listing.specs.Listing.{nameOf, cellsOf, onItem, nextOf}
+use Rattle.listing.specs.Listing.{sheetOf, nameOf, sheetListOf, cellsOf, onItem, nextOf, tokensIn}
 use Rattle.listing.specs.Parts.{itemOf, foundSheet, SoughtWithin}
 
 -- ---- one step
@@ -108,6 +109,52 @@ module _ (s : List ℕ) where
 
 pub ruleset next-laws = (less-skip, next-skip, next-cell, next-end)
 
+-- ---- the list and the walk that gives its cells one by one
+abbrev pub onListed : List ℕ → Listed → List Cell
+onListed s (listed.Cell c w) = c ∷ listedFrom s w
+onListed s listed.End = []
+
+module _ (s : List ℕ) where
+  listed-more : (v w : Place) (x : Item Place Cell) → cellItem s v ≡ x → onItem x ≡ more w → listedFrom s v ≡ listedFrom s w
+  listed-more v w (gives c t) h e = absurd (let z : _≡_ {A = ℕ} 0 1 = cc in omega arith)
+  listed-more v w (skips t) h e = listed-step s v ∙ ap (λ (y : Item Place Cell). onto y (λ p. listedFrom s p)) h ∙ ap (listedFrom s) (let i : t ≡ w = cc in i)
+  listed-more v w ends h e = absurd (let z : _≡_ {A = ℕ} 0 1 = cc in omega arith)
+
+  listed-stop : (v : Place) (a : Listed) (x : Item Place Cell) → cellItem s v ≡ x → onItem x ≡ stop a → listedFrom s v ≡ onListed s a
+  listed-stop v a (gives c t) h e = listed-step s v ∙ ap (λ (y : Item Place Cell). onto y (λ p. listedFrom s p)) h ∙ ap (onListed s) (let i : listed.Cell c t ≡ a = cc in i)
+  listed-stop v a (skips t) h e = absurd (let z : _≡_ {A = ℕ} 0 1 = cc in omega arith)
+  listed-stop v a ends h e = listed-step s v ∙ ap (λ (y : Item Place Cell). onto y (λ p. listedFrom s p)) h ∙ ap (onListed s) (let i : listed.End ≡ a = cc in i)
+
+  -- from any place on, `next_cell` gives the first cell of the list there and the place of the others, or the list is at its end
+  pub listed-next : (v : Place) → listedFrom s v ≡ onListed s (nextOf s v)
+  unfolding nextOf
+  listed-next v =
+      run-keeps (go s) listed.End (remaining s) (falls s) (λ u. listedFrom s v ≡ listedFrom s u) (λ a. listedFrom s v ≡ onListed s a)
+      (λ u w i j. i ∙ listed-more u w (cellItem s u) refl j)
+      (λ u a i j. i ∙ listed-stop u a (cellItem s u) refl j)
+      v refl
+
+-- and the place that it gives is nearer the end
+abbrev NearerThan : List ℕ → Place → Listed → Type 0
+NearerThan s v (listed.Cell c w) = remaining s w < remaining s v
+NearerThan s v listed.End = Unit {0}
+
+near-stop : (s : List ℕ) (v u : Place) (a : Listed) (x : Item Place Cell) → Nearer (remaining s) u x → remaining s u ≤ remaining s v → onItem x ≡ stop a → NearerThan s v a
+near-stop s v u a (gives c t) n l e = let j : listed.Cell c t ≡ a = cc in let i : remaining s t < remaining s v = omega arith in subst (NearerThan s v) j i
+near-stop s v u a (skips t) n l e = absurd (let z : _≡_ {A = ℕ} 0 1 = cc in omega arith)
+near-stop s v u a ends n l e = let j : listed.End ≡ a = cc in subst (NearerThan s v) j tt
+
+next-near : (s : List ℕ) (v : Place) → NearerThan s v (nextOf s v)
+unfolding nextOf
+next-near s v =
+    run-keeps (go s) listed.End (remaining s) (falls s) (λ u. remaining s u ≤ remaining s v) (NearerThan s v)
+    (λ u w i j. let f = falls s u w j in omega arith)
+    (λ u a i j. near-stop s v u a (cellItem s u) (item-near s u) i j)
+    v (omega arith)
+
+pub next-nearer : (s : List ℕ) (v : Place) {r : Listed} → r ≡ nextOf s v → (c : Cell) (w : Place) → r ≡ listed.Cell c w → remaining s w < remaining s v
+next-nearer s v is c w h = let n : NearerThan s v (listed.Cell c w) = subst (NearerThan s v) (sym is ∙ h) (next-near s v) in n
+
 -- ---- the sheet that is sought
 module _ (s : List ℕ) (n p left : ℕ) (inv : nth (sheetsOf s) n foundSheet sought.Absent ≡ nth (sheetsFrom s p) left foundSheet sought.Absent) (r : Bound) (is : r ≡ boundAt s p) where
   pub sought-none : r ≡ bound.Done → sought.Absent ≡ nth (sheetsOf s) n foundSheet sought.Absent
@@ -145,6 +192,9 @@ pub ruleset name-laws = (name-by, name-short, name-part, refl′)
 module _ (s : List ℕ) (o t z e : ℕ) {r : Header} (is : r ≡ headerAt s o) (h : r ≡ Record t z e) (size : 8 ≤ z) where
   w : Whole s o t z e
   w = whole s o t z e (sym is ∙ h)
+
+  pub name-add : e < 2 ^ 64 → o + 12 < 2 ^ 64
+  name-add h = let x = w in omega arith
 
   pub name-from : o + 12 ≤ e
   name-from = let x = w in omega arith
@@ -186,6 +236,10 @@ abbrev toStart : List ℕ → Sought → Start
 toStart s (sought.Sheet o p k) = start.At (startBy (length s) p k)
 toStart s sought.Absent = start.Refused 11 0
 
+abbrev toDescription : List ℕ → Sought → Description
+toDescription s (sought.Sheet o p k) = description.Sheet (typeAt s o) (widthAt s o) (rowsOf (listedFrom s (startBy (length s) p k)))
+toDescription s sought.Absent = description.Refused 11 0
+
 abbrev toName : List ℕ → Sought → List ℕ
 toName s (sought.Sheet o p k) = nameAt s o
 toName s sought.Absent = []
@@ -199,6 +253,10 @@ module _ (s : List ℕ) (n : ℕ) {r : Checked} (is : r ≡ checkedOf s 0) where
   unfolding nameOf
   name-wrong m o h = refused (λ _ _. []) (toName s) s n is m o h
 
+  pub sheet-wrong : (m o : ℕ) → r ≡ Wrong m o → description.Refused m o ≡ sheetOf s n
+  unfolding sheetOf
+  sheet-wrong m o h = refused description.Refused (toDescription s) s n is m o h
+
   module _ (b : Globals) {q : Sought} (h : r ≡ Right b) (i : q ≡ nth (sheetsOf s) n foundSheet sought.Absent) where
     pub cells-absent : q ≡ sought.Absent → start.Refused 11 0 ≡ cellsOf s n
     unfolding cellsOf
@@ -208,6 +266,16 @@ module _ (s : List ℕ) (n : ℕ) {r : Checked} (is : r ≡ checkedOf s 0) where
     unfolding cellsOf
     cells-there o p k v j e = ap start.At e ∙ answered start.Refused (toStart s) s n is b h i j
 
+    pub sheet-absent : q ≡ sought.Absent → description.Refused 11 0 ≡ sheetOf s n
+    unfolding sheetOf
+    sheet-absent j = answered description.Refused (toDescription s) s n is b h i j
+
+    pub sheet-there : (o p k : ℕ) → q ≡ sought.Sheet o p k → (t w : ℕ) → t ≡ typeAt s o → w ≡ widthAt s o → (v : Place) → v ≡ startBy (length s) p k → (m : ℕ) → m ≡ rowsOf (listedFrom s v) → description.Sheet t w m ≡ sheetOf s n
+    unfolding sheetOf
+    sheet-there o p k j t w d e v f m g =
+        (let a = g ∙ ap (λ (x : Place). rowsOf (listedFrom s x)) f in λ i. description.Sheet (d i) (e i) (a i))
+        ∙ answered description.Refused (toDescription s) s n is b h i j
+
     pub name-absent : q ≡ sought.Absent → [] ≡ nameOf s n
     unfolding nameOf
     name-absent j = answered (λ _ _. []) (toName s) s n is b h i j
@@ -216,4 +284,56 @@ module _ (s : List ℕ) (n : ℕ) {r : Checked} (is : r ≡ checkedOf s 0) where
     unfolding nameOf
     name-there o p k l j e = e ∙ answered (λ _ _. []) (toName s) s n is b h i j
 
-pub ruleset question-laws = (cells-wrong, cells-absent, cells-there, name-wrong, name-absent, name-there)
+-- where the sheet list starts
+module _ (s : List ℕ) {r : Checked} (is : r ≡ checkedOf s 0) where
+  pub list-wrong : (m o : ℕ) → r ≡ Wrong m o → sheetList.Refused m o ≡ sheetListOf s
+  unfolding sheetListOf
+  list-wrong m o h = ap (onChecked sheetList.Refused (λ _. sheetList.At 20)) (sym h ∙ is)
+
+  pub list-right : (b : Globals) → r ≡ Right b → sheetList.At 20 ≡ sheetListOf s
+  unfolding sheetListOf
+  list-right b h = ap (onChecked sheetList.Refused (λ _. sheetList.At 20)) (sym h ∙ is)
+
+pub ruleset question-laws = (sheet-wrong, sheet-absent, sheet-there, list-wrong, list-right, cells-wrong, cells-absent, cells-there, name-wrong, name-absent, name-there)
+
+-- ---- where the walks start is where the reading's lists do
+module _ (s : List ℕ) where
+  started : (v : Place) (l : List Sheet) (n : ℕ) → nth l n (λ (x : Sheet). start.At (startOf s x)) (start.Refused 11 0) ≡ start.At v → listedFrom s v ≡ nth l n (λ (x : Sheet). listedOf s x) []
+  unfolding nth
+  started v [] n h = absurd (let z : _≡_ {A = ℕ} 0 1 = cc in omega arith)
+  started v (x ∷ l) zero h = let e : startOf s x ≡ v = cc in ap (listedFrom s) (sym e)
+  started v (x ∷ l) (suc n) h = started v l n h
+
+  cells-by : (v : Place) (n : ℕ) (r : Checked) → onChecked start.Refused (λ _. nth (sheetsOf s) n (λ (x : Sheet). start.At (startOf s x)) (start.Refused 11 0)) r ≡ start.At v → listedFrom s v ≡ nth (sheetsOf s) n (λ (x : Sheet). listedOf s x) []
+  cells-by v n (Right g) h = started v (sheetsOf s) n h
+  cells-by v n (Wrong m o) h = absurd (let z : _≡_ {A = ℕ} 0 1 = cc in omega arith)
+
+  -- from `cells` on, `next_cell` gives the cells of sheet n
+  pub cells-listed : (n : ℕ) (v : Place) → cellsOf s n ≡ start.At v → listedFrom s v ≡ nth (sheetsOf s) n (λ (x : Sheet). listedOf s x) []
+  unfolding cellsOf
+  cells-listed n v h = cells-by v n (checkedOf s 0) h
+
+  sheets-by-check : (p : ℕ) (r : Checked) → onChecked sheetList.Refused (λ _. sheetList.At 20) r ≡ sheetList.At p → sheetsFrom s p ≡ sheetsOf s
+  sheets-by-check p (Right g) h = let e : 20 ≡ p = cc in ap (sheetsFrom s) (sym e)
+  sheets-by-check p (Wrong m o) h = absurd (let z : _≡_ {A = ℕ} 0 1 = cc in omega arith)
+
+  -- from `sheets` on, `next_sheet` gives the sheets of the stream
+  pub sheets-listed : (p : ℕ) → sheetListOf s ≡ sheetList.At p → sheetsFrom s p ≡ sheetsOf s
+  unfolding sheetListOf
+  sheets-listed p h = sheets-by-check p (checkedOf s 0) h
+
+-- ---- a formula's tokens
+module _ (s : List ℕ) (c : Cell) (size : ℕ) (is : size ≡ c .tokens .length) where
+  pub tokens-past : length s < c .tokens .start → [] ≡ tokensIn s c
+  unfolding tokensIn
+  tokens-past h = pick-nle _ _ _ (c .tokens .start + c .tokens .length) (length s) (omega arith) refl
+
+  pub tokens-cut : c .tokens .start ≤ length s → length s - c .tokens .start < size → [] ≡ tokensIn s c
+  unfolding tokensIn
+  tokens-cut h i = pick-nle _ _ _ (c .tokens .start + c .tokens .length) (length s) (omega arith) refl
+
+  pub tokens-part : c .tokens .start ≤ length s → size ≤ length s - c .tokens .start → take (c .tokens .start + size - c .tokens .start) (drop (c .tokens .start) s) ≡ tokensIn s c
+  unfolding tokensIn tokensOf
+  tokens-part h i = pick-le _ _ _ (c .tokens .start + c .tokens .length) (length s) (omega arith) (ap (λ (n : ℕ). take n (drop (c .tokens .start) s)) (let e : c .tokens .start + size - c .tokens .start ≡ c .tokens .length = omega arith in e))
+
+pub ruleset token-laws = (tokens-past, tokens-cut, tokens-part)

@@ -1,19 +1,51 @@
 // The sheets of a stream, and the cells of a sheet one after the other. The check is made once, when a listing starts.
 ghost use mathlib.Core.Path.{_≡_};
-ghost use Prim.Native.Nat.{_+_, _≤_};
+ghost use Prim.Native.Nat.{_+_, _≤_, max};
 ghost use lib.ListN.{length};
 ghost use Rattle.walk.specs.Items.{nth};
+ghost use Rattle.record.specs.Record.{headerAt};
 ghost use Rattle.globals.specs.Sheets.{sheetsOf};
-ghost use Rattle.reading.specs.Cells.{placeAt, otherItem, recordItem, cellItem};
-ghost use Rattle.reading.specs.Reading.{nameAt, startBy};
-ghost use Rattle.listing.specs.Listing.{nameOf, cellsOf, nextOf};
-ghost use Rattle.listing.specs.Parts.{itemOf, foundSheet, SoughtWithin};
+ghost use Rattle.reading.specs.Cells.{placeAt, otherItem, recordItem, cellItem, listedFrom};
+ghost use Rattle.reading.specs.Reading.{nameAt, widthAt, typeAt, startBy, rowsOf};
+ghost use Rattle.listing.specs.Listing.{sheetOf, nameOf, sheetListOf, nextSheetOf, cellsOf, nextOf, tokensIn};
+ghost use Rattle.listing.specs.Parts.{itemOf, foundSheet, SoughtWithin, overOther, RowsBy};
 use cell::Cell;
 use cell::Found;
 use globals::Bound;
 use reading::Place;
 use record::Header;
 use workbook::Checked;
+
+// A sheet: its type (0 worksheet, 1 macro, 2 chart), the bytes of a character of its name (1 or 2), its row count, up to 65,536.
+pub enum Description {
+    Sheet {
+        type_byte: u8,
+        width: usize,
+        rows: u32,
+    },
+    Refused {
+        number: u8,
+        offset: usize,
+    },
+}
+
+// Where the sheet list starts, or the refusal's number and offset.
+pub enum SheetList {
+    At(usize),
+    Refused { number: u8, offset: usize },
+}
+
+// The next sheet: its BOUNDSHEET, the type and the width that it gives, where the sheet's cells start, and the place after it; or the end of the list.
+pub enum NextSheet {
+    Sheet {
+        header: usize,
+        type_byte: u8,
+        width: usize,
+        cells: Place,
+        next: usize,
+    },
+    End,
+}
 
 // Where a listing starts, or the refusal's number and offset.
 pub enum Start {
@@ -31,6 +63,12 @@ pub enum Listed {
 pub enum Step {
     Gives { cell: Cell, next: Place },
     Skips(Place),
+    Ends,
+}
+
+// One record of a count of rows: the highest row plus one that it has, 0 where it has no cell.
+pub enum RowStep {
+    Rows { rows: u32, next: Place },
     Ends,
 }
 
@@ -199,8 +237,8 @@ pub fn cells(s: &[u8], n: u32) -> Start
     }
 }
 
-fn name_at(s: &[u8], header: usize) -> &[u8]
-    requires { ⌜ header + 12 ≤ length (now s) ⌝ }
+// The name of the sheet whose BOUNDSHEET has its header there.
+pub fn name_at(s: &[u8], header: usize) -> &[u8]
     ensures { λ r. ⌜ now r ≡ nameAt (now (s .entry)) header ⌝ }
 {
     match record::header_at(s, header) {
@@ -234,4 +272,182 @@ pub fn sheet_name(s: &[u8], n: u32) -> &[u8]
             Sought::Absent => &s[0..0],
         },
     }
+}
+
+// ---- the row count: a record has one row, so its cells needn't be looked at one by one
+
+// The row count of a row.
+fn rows_to(row: u16) -> u32
+    ensures { λ r. ⌜ r ≡ row + 1 ⌝ }
+{
+    row as u32 + 1
+}
+
+// Past a record that has no cell here.
+fn other_rows(v: Place, id: u16, end: usize) -> RowStep
+    ensures { λ r. ⌜ r ≡ overOther (otherItem v id end) ⌝ }
+{
+    match other_item(v, id, end) {
+        Step::Gives { cell: _, next: _ } => RowStep::Ends,
+        Step::Skips(next) => RowStep::Rows { rows: 0, next },
+        Step::Ends => RowStep::Ends,
+    }
+}
+
+fn record_rows(s: &[u8], v: Place, id: u16, size: usize, end: usize) -> RowStep
+    requires { ⌜ (v .at + 4 + size ≤ length (now s)) × (headerAt (now s) (v .at) ≡ Header.Record id size end) ⌝ }
+    ensures { λ r. ⌜ RowsBy (now (s .entry)) v r ⌝ }
+{
+    let at = v.at;
+    if v.level != 0 {
+        return other_rows(v, id, end);
+    }
+    if v.part < cell::cell_count(s, at, id, size) {
+        return RowStep::Rows {
+            rows: rows_to(le::u16_at(s, at + 4)),
+            next: place_at(end, 0),
+        };
+    }
+    other_rows(v, id, end)
+}
+
+fn row_step(s: &[u8], v: Place) -> RowStep
+    ensures { λ r. ⌜ RowsBy (now (s .entry)) v r ⌝ }
+{
+    match record::header_at(s, v.at) {
+        Header::Record {
+            kind: id,
+            size,
+            end,
+        } => record_rows(s, v, id, size, end),
+        Header::Cut => RowStep::Ends,
+        Header::End => RowStep::Ends,
+    }
+}
+
+fn larger(a: u32, b: u32) -> u32
+    ensures { λ r. ⌜ r ≡ max a b ⌝ }
+{
+    if a < b {
+        return b;
+    }
+    a
+}
+
+// The row count of the cells from a place on.
+pub fn rows(s: &[u8], from: Place) -> u32
+    ensures { λ r. ⌜ r ≡ rowsOf (listedFrom (now (s .entry)) from) ⌝ }
+{
+    let mut most: u32 = 0;
+    let mut v = from;
+    loop {
+        match row_step(s, v) {
+            RowStep::Rows { rows, next } => {
+                most = larger(most, rows);
+                v = next;
+            }
+            RowStep::Ends => {
+                return most;
+            }
+        }
+    }
+}
+
+// ---- the sheets
+
+fn type_at(s: &[u8], header: usize) -> u8
+    requires { ⌜ header + 12 ≤ length (now s) ⌝ }
+    ensures { λ r. ⌜ r ≡ typeAt (now (s .entry)) header ⌝ }
+{
+    s[header + 9]
+}
+
+fn width_at(s: &[u8], header: usize) -> usize
+    requires { ⌜ header + 12 ≤ length (now s) ⌝ }
+    ensures { λ r. ⌜ r ≡ widthAt (now (s .entry)) header ⌝ }
+{
+    segments::width_of(s[header + 11])
+}
+
+// Sheet n.
+pub fn sheet(s: &[u8], n: u32) -> Description
+    ensures { λ r. ⌜ r ≡ sheetOf (now (s .entry)) n ⌝ }
+{
+    match workbook::check_with(s, 0) {
+        Checked::Wrong { number, offset } => Description::Refused { number, offset },
+        Checked::Right(_) => match find_sheet(s, n) {
+            Sought::Sheet {
+                header,
+                position,
+                kind,
+            } => Description::Sheet {
+                type_byte: type_at(s, header),
+                width: width_at(s, header),
+                rows: rows(s, start_of(s, position, kind)),
+            },
+            Sought::Absent => Description::Refused {
+                number: 11,
+                offset: 0,
+            },
+        },
+    }
+}
+
+// Where the sheet list starts, for `next_sheet`.
+pub fn sheets(s: &[u8]) -> SheetList
+    ensures { λ r. ⌜ r ≡ sheetListOf (now (s .entry)) ⌝ }
+{
+    match workbook::check_with(s, 0) {
+        Checked::Wrong { number, offset } => SheetList::Refused { number, offset },
+        Checked::Right(_) => SheetList::At(20),
+    }
+}
+
+// The next sheet from a place on. Like `next_cell` it doesn't check the stream, has an answer for all bytes and places, and comes nearer the end.
+pub fn next_sheet(s: &[u8], from: usize) -> NextSheet
+    ensures { λ r. ⌜ r ≡ nextSheetOf (now (s .entry)) from ⌝ }
+{
+    let mut p = from;
+    loop {
+        match globals::bound_at(s, p) {
+            Bound::Sheet {
+                header,
+                position,
+                kind,
+                next,
+            } => {
+                return NextSheet::Sheet {
+                    header,
+                    type_byte: type_at(s, header),
+                    width: width_at(s, header),
+                    cells: start_of(s, position, kind),
+                    next,
+                };
+            }
+            Bound::Other(next) => {
+                p = next;
+            }
+            Bound::Done => {
+                return NextSheet::End;
+            }
+        }
+    }
+}
+
+// ---- a formula's tokens, as a part of the stream
+
+pub fn tokens(s: &[u8], cell: Cell) -> &[u8]
+    ensures { λ r. ⌜ now r ≡ tokensIn (now (s .entry)) cell ⌝ }
+{
+    let part = cell.tokens;
+    let start = part.start;
+    let size = le::u16_as_usize(part.length);
+    if s.len() < start {
+        return &s[0..0];
+    }
+    if s.len() - start < size {
+        return &s[0..0];
+    }
+    let end = start + size;
+    &s[start..end]
 }

@@ -19,8 +19,8 @@ cell-item-spec =
     -- enum-told-2
     (λ c. search needs)
     -- returns
-    (λ c. search (step-laws, body-within, needs))
+    (λ c. search (step-laws, needs))
     -- returns-2
-    (λ c. search (step-laws, body-within, needs))
+    (λ c. search (step-laws, needs))
     -- returns-3
-    (λ c. search (step-laws, body-within, needs)))
+    (λ c. search (step-laws, needs)))

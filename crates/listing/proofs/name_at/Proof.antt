@@ -1,4 +1,4 @@
-use Rattle.listing.proofs.Laws.{name-laws, name-from, name-to}
+use Rattle.listing.proofs.Laws.{name-laws, name-add, name-from, name-to}
 use borrow.Author.Needs.{needs}
 use Rattle.listing.proofs.name_at.Statement.{statement}
 use Rattle.listing.proofs.name_at.Tie as tie
@@ -20,7 +20,7 @@ name-at-spec =
     -- returns
     (λ c. search name-laws)
     -- add-from
-    (λ c. search needs)
+    (λ c. record { fits = search (name-add, needs) })
     -- sub-result-2
     (λ c. search name-from)
     -- part-result-start-2

@@ -1,4 +1,4 @@
-use Rattle.listing.proofs.Laws.{question-laws, sought-room}
+use Rattle.listing.proofs.Laws.{question-laws}
 use borrow.Author.Needs.{needs}
 use Rattle.listing.proofs.sheet_name.Statement.{statement}
 use Rattle.listing.proofs.sheet_name.Tie as tie
@@ -24,7 +24,7 @@ sheet-name-spec =
     -- enum-known-header
     (λ c. search needs)
     -- name-at-requires
-    (λ c κs. search sought-room)
+    (λ c κs. search needs)
     -- enum-told-3
     (λ c. search needs)
     -- sub-result-2

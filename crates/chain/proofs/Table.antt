@@ -1,0 +1,106 @@
+-- The segments of the string table are whole records, one after the other. Assumes nothing.
+use Prim.Native.Nat.{ℕ, zero, suc}
+use mathlib.Core.Path.{_≡_, refl, subst}
+use mathlib.Core.List.{List}
+use mathlib.Core.Bool.{Bool, true, false}
+use Rattle.walk.proofs.Choice.{pick-any}
+use Rattle.le.specs.Bytes.{byteAt}
+use Rattle.record.specs.declared.Header.{Header}
+use Rattle.record.specs.declared.Header.the-variants.{Record, Cut, End}
+use Rattle.record.specs.Record.{headerAt}
+use Rattle.segments.specs.declared.Cursor.{Cursor}
+use Rattle.segments.specs.Segments.{Got, got, refused, then, push, on, segmentOf, nextSegment, filled, need, widthOf, enter, room, items}
+use Rattle.strings.specs.declared.Strings.{Strings}
+use Rattle.strings.specs.declared.Strings.the-variants as strings
+use Rattle.strings.specs.Table.{head, rest, stringAt, nextPlace, strings, first, tableOf, answerOf}
+use Rattle.chain.specs.Chain.{here, Reach}
+use Rattle.chain.proofs.Chain.{chain-trans, reach-one}
+
+module _ (s : List ℕ) where
+  -- a reading that begins in the segment of c comes to a segment that is reached from it
+  abbrev Runs : {A : Type 0} → Cursor → Got A → Type 0
+  Runs c (got v d) = Reach s (c .end) (d .end)
+  Runs c (refused n o) = Unit {0}
+
+  runs-on : {A : Type 0} (c d : Cursor) (x : Got A) → Reach s (c .end) (d .end) → Runs d x → Runs c x
+  runs-on c d (got v e) q r = chain-trans q r
+  runs-on c d (refused n o) q r = tt
+
+  runs-then : {A B : Type 0} (c : Cursor) (x : Got A) (k : A → Cursor → Got B) → Runs c x → ((v : A) (d : Cursor) → Runs d (k v d)) → Runs c (then x k)
+  runs-then c (got v d) k q f = runs-on c d (k v d) q (f v d)
+  runs-then c (refused n o) k q f = tt
+
+  runs-push : {A : Type 0} (c : Cursor) (v : A) (x : Got (List A)) → Runs c x → Runs c (push v x)
+  runs-push c v (got l d) r = r
+  runs-push c v (refused n o) r = tt
+
+  runs-segment : (n : ℕ) (c : Cursor) (h : Header) → headerAt s (c .end) ≡ h → Runs c (segmentOf n (c .end) h)
+  runs-segment n c (Record t z e) h = pick-any (Runs c) _ tt (reach-one s h)
+  runs-segment n c Cut h = tt
+  runs-segment n c End h = tt
+
+  runs-next : (n : ℕ) (c : Cursor) → Runs c (nextSegment n s c)
+  unfolding nextSegment
+  runs-next n c = pick-any (Runs c) _ (runs-segment n c (headerAt s (c .end)) refl) tt
+
+  runs-filled : (n : ℕ) (c : Cursor) → Runs c (filled n s c)
+  unfolding filled
+  runs-filled n c = pick-any (Runs c) _ (pick-any (Runs c) _ (runs-then c (nextSegment n s c) _ (runs-next n c) (λ v d. tt)) here) tt
+
+  runs-need : (n w : ℕ) (c : Cursor) → Runs c (need n w c)
+  unfolding need
+  runs-need n w c = pick-any (Runs c) _ tt here
+
+  runs-enter : (n : ℕ) (f : Bool) (w : ℕ) (c : Cursor) → Runs c (enter n s f w c)
+  runs-enter n true w c = runs-on c (on c 1) (need n (widthOf (byteAt s (c .at))) (on c 1)) here (runs-need n (widthOf (byteAt s (c .at))) (on c 1))
+  runs-enter n false w c = runs-need n w c
+
+  runs-room : (n : ℕ) (f : Bool) (w : ℕ) (c : Cursor) → Runs c (room n s f w c)
+  unfolding room
+  runs-room n f w c = pick-any (Runs c) _ (runs-then c (nextSegment n s c) _ (runs-next n c) (λ v d. runs-enter n f w d)) (runs-need n w c)
+
+  runs-items : (n : ℕ) (f : Bool) (w k : ℕ) (c : Cursor) → Runs c (items n s f w k c)
+  unfolding items
+  runs-items n f w zero c = here
+  runs-items n f w (suc k) c = runs-then c (room n s f w c) _ (runs-room n f w c) (λ v d. runs-push d _ (items n s f v k (on d v)) (runs-on d (on d v) (items n s f v k (on d v)) here (runs-items n f v k (on d v))))
+
+  runs-head : (c : Cursor) → Runs c (head s c)
+  unfolding head
+  runs-head c = runs-then c (need 8 3 c) _ (runs-need 8 3 c) (λ v d. runs-then d (need 8 _ d) _ (runs-need 8 _ d) (λ w e. here))
+
+  runs-string : (c : Cursor) → Runs c (stringAt s c)
+  unfolding stringAt rest
+  runs-string c =
+      runs-then c (head s c) _ (runs-head c) (λ h d.
+      runs-then d (items 8 s true (h .width) (h .chars) d) _ (runs-items 8 true (h .width) (h .chars) d) (λ us e.
+      runs-then e (then (items 8 s false 4 (h .runs) e) (λ _ i. items 8 s false 1 (h .phonetic) i)) _
+      (runs-then e (items 8 s false 4 (h .runs) e) _ (runs-items 8 false 4 (h .runs) e) (λ v i. runs-items 8 false 1 (h .phonetic) i)) (λ v i. here)))
+
+  runs-place : (c : Cursor) → Runs c (nextPlace s c)
+  unfolding nextPlace
+  runs-place c = pick-any (Runs c) _ (runs-next 8 c) here
+
+  runs-strings : (n : ℕ) (c : Cursor) → Runs c (strings s n c)
+  unfolding strings
+  runs-strings zero c = here
+  runs-strings (suc n) c =
+      runs-then c (nextPlace s c) _ (runs-place c) (λ v d.
+      runs-then d (stringAt s d) _ (runs-string d) (λ us e. runs-push e d (strings s n e) (runs-strings n e)))
+
+  runs-table : (p e : ℕ) → Runs (first p e) (tableOf s p e)
+  unfolding tableOf
+  runs-table p e =
+      pick-any (Runs (first p e)) _ tt
+      (runs-then (first p e) (strings s _ (first p e)) _ (runs-strings _ (first p e)) (λ l c. runs-then c (filled 8 s c) _ (runs-filled 8 c) (λ v d. here)))
+
+  abbrev Ends : ℕ → Strings → Type 0
+  Ends e (strings.Table n o) = Reach s e o
+  Ends e (strings.Refused n o) = Unit {0}
+
+  ends-answer : (p e : ℕ) (x : Got (List Cursor)) → Runs (first p e) x → Ends e (answerOf x)
+  ends-answer p e (got l c) r = r
+  ends-answer p e (refused n o) r = tt
+
+  -- the table's end is reached from the end of its SST
+  pub table-reach : (p e n o : ℕ) → answerOf (tableOf s p e) ≡ strings.Table n o → Reach s e o
+  table-reach p e n o h = subst (Ends e) h (ends-answer p e (tableOf s p e) (runs-table p e))

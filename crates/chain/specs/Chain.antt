@@ -1,0 +1,37 @@
+-- Whole records, one after the other.
+use Prim.Native.Nat.{ℕ, zero, suc, _≤_}
+use mathlib.Core.Path.{_≡_}
+use mathlib.Core.List.{List, [], _∷_}
+use mathlib.Core.Logic.{_⊎_}
+use Rattle.record.specs.declared.Header.the-variants.{Record}
+use Rattle.record.specs.Record.{headerAt}
+
+-- y is reached from x by steps
+pub data Chain (Step : ℕ → ℕ → Type 0) : ℕ → ℕ → Type 0 where
+  here : {x : ℕ} → Chain Step x x
+  on : {x e y : ℕ} → Step x e → Chain Step e y → Chain Step x y
+
+-- a whole record stands at x and ends at e
+pub record Over (s : List ℕ) (x e : ℕ) : Type 0 where
+  pub type : ℕ
+  pub size : ℕ
+  pub is : headerAt s x ≡ Record type size e
+
+-- y is reached from x by stepping over whole records
+abbrev pub Reach : List ℕ → ℕ → ℕ → Type 0
+Reach s x y = Chain (Over s) x y
+
+-- the records from x on come to the record that starts at a and ends at e, or x is past it
+abbrev pub Beside : List ℕ → ℕ → ℕ → ℕ → Type 0
+Beside s a e x = Reach s x a ⊎ (e ≤ x)
+
+-- ---- lists
+-- each has the property
+abbrev pub Every : {A : Type 0} → (A → Type 0) → List A → Type 0
+Every P [] = Unit {0}
+Every P (x ∷ l) = P x × Every P l
+
+-- x is the n-th, counted from 0
+pub data Nth {A : Type 0} : List A → ℕ → A → Type 0 where
+  first : {x : A} {l : List A} → Nth (x ∷ l) zero x
+  next : {x y : A} {l : List A} {n : ℕ} → Nth l n x → Nth (y ∷ l) (suc n) x

@@ -1,0 +1,249 @@
+-- Demand 3. Assumes nothing.
+use Prim.Native.Nat.{ℕ, zero, suc, _+_, _/_, _%_, _^_, _≤_, _<_}
+use mathlib.Core.Path.{_≡_, refl, sym, ap, _∙_, subst}
+use mathlib.Core.List.{List, [], _∷_}
+use mathlib.Core.Logic.{_⊎_, inl, inr, _↔_}
+use mathlib.Core.Bool.{Bool, true, false, not}
+use native.Mathlib.Omega.{arith}
+use lib.Dec.{T, ltb, eqb}
+use lib.Ieee as Ieee
+use lib.Ieee.{binary64, fits}
+use lib.ListN.{length, getD}
+use lib.Seq.{sets, length-sets}
+use borrow.Author.Tests.{le-ltb, ltb-false, leb-false, lt-leb}
+use Rattle.walk.specs.Choice.{pick}
+use Rattle.walk.proofs.Choice.{never, pick-by}
+use Rattle.walk.specs.Items.{nth}
+use Rattle.le.specs.Bytes.{bytesOf}
+use Rattle.le.proofs.Laws.{stored-other, num-stored}
+use Rattle.record.proofs.Laws.{whole}
+use Rattle.boolerr.specs.Boolerr.{isTruth, isError}
+use Rattle.number.specs.Float64.{bitsOf}
+use Rattle.number.specs.Packing.{Means, packOf}
+use Rattle.number.specs.declared.Packed.{Packed}
+use Rattle.number.specs.declared.Packed.the-variants.{Word, Unpacked}
+use Rattle.number.proofs.Laws.{bits-of-lt, refused-exactly}
+use Rattle.value.specs.declared.Field.{Field}
+use Rattle.value.specs.declared.Field.the-variants.{NoField, Float, RkWord, TextIndex, TruthError, StoredResult}
+use Rattle.value.specs.Value.{widthOf, valueOf}
+use Rattle.cell.specs.declared.Cell.{Cell}
+use Rattle.change.specs.declared.NewValue.{NewValue}
+use Rattle.change.specs.declared.NewValue.the-variants.{Number, Text, Truth, Error}
+use Rattle.change.specs.declared.Plan.{Plan}
+use Rattle.change.specs.declared.Plan.the-variants as plan
+use Rattle.change.specs.Change.{putIf, finite, floatPlan, packedPlan, planOf}
+use Rattle.kept.specs.Claims.{Held, Says}
+use Rattle.kept.proofs.Planned.{planned}
+use Rattle.sheetlist.specs.Agreement.{Sheet}
+use Rattle.globals.specs.declared.Globals.{Globals}
+use Rattle.globals.specs.Sheets.{sheetsOf}
+use Rattle.workbook.specs.declared.Checked.{Checked}
+use Rattle.workbook.specs.declared.Checked.the-variants.{Right, Wrong}
+use Rattle.workbook.specs.declared.Answer.the-variants.{Passed}
+use Rattle.workbook.specs.Check.{checkedOf, answered, checkOf, onChecked}
+use Rattle.reading.specs.Reading.{startOf, listedOf}
+use Rattle.correction.specs.Correction.{Correction, refuses, writes, cellsAt, onPlan, onCells, correctionOf}
+use Rattle.chain.specs.Chain.{Nth, first, next}
+use Rattle.upheld.proofs.Granted.{granted, listed-only, field-high}
+use Rattle.upheld.proofs.Upheld.{upheld, sheets-stay}
+use Rattle.reread.proofs.Reading.{reads-replaced}
+use Rattle.claims.specs.Demand3.{HoldsNew, OthersStay, passed, Passes, ReadsNew, takes, Unfit, Only, Refusal, checked, no-sheet, no-cell, many, kind, value, RefusedExactly, PackedExactly}
+
+-- ---- a granted correction
+pub holds-new : HoldsNew
+holds-new s n row column v f p b held h =
+    let given = granted s n row column v f p b h in
+    let at = listed-only s (startOf s (given .sheet)) row column (given .cell) (given .only) in
+    let says = planned f v (given .globals .unique) b held (ap (λ (k : Field). planOf k v (given .globals .unique)) (sym (given .kind)) ∙ given .plan) in
+    let in-record = field-high at in
+    let place = given .field in
+    let width = ap widthOf (given .kind) in
+    let in-stream = whole s (at .at) (at .type) (at .size) (at .end) (at .header) in
+    ap (valueOf f) (num-stored (widthOf f) b s p (omega arith) (says .small)) ∙ says .value
+
+pub others-stay : OthersStay
+others-stay s n row column v f p b held h = (length-sets s p (bytesOf (widthOf f) b), stored-other (widthOf f) b s p)
+
+pub passes : Passes
+unfolding checkOf
+passes s n row column v f p b held h =
+    let given = granted s n row column v f p b h in
+    let same = upheld s n row column v f p b held h in
+    let old : checkOf s ≡ Passed (length (sheetsOf s)) (given .globals .unique) = ap (answered s) (given .passes) in
+    let new : checkOf _ ≡ Passed (length (sheetsOf s)) (given .globals .unique) = ap (answered _) (same ∙ given .passes) ∙ ap (λ (l : List Sheet). Passed (length l) (given .globals .unique)) (sym (sheets-stay s n row column v f p b held given)) in
+    (ap passed new, new ∙ sym old)
+
+pub reads-new : ReadsNew
+reads-new = reads-replaced
+
+-- ---- refused exactly when the table says
+-- which row a plan meets, where t says that the kind takes the value and U that it doesn't fit
+data Row (t : Bool) (U : Type 0) : ℕ → ℕ → Type 0 where
+  by-kind : t ≡ false → Row t U 17 0
+  by-value : t ≡ true → U → Row t U 18 0
+
+record Settles (t : Bool) (U : Type 0) (p : Plan) : Type 0 where
+  kind : t ≡ false → p ≡ plan.Refused 17 0
+  value : t ≡ true → U → p ≡ plan.Refused 18 0
+  met : (m o : ℕ) → p ≡ plan.Refused m o → Row t U m o
+
+same-row : {t : Bool} {U : Type 0} {a b m o : ℕ} → plan.Refused a b ≡ plan.Refused m o → Row t U a b → Row t U m o
+same-row {t} {U} {a} {b} {m} {o} e x =
+    let i : a ≡ m = cc in
+    let j : b ≡ o = cc in
+    subst (λ (k : ℕ). Row t U k o) i (subst (λ (k : ℕ). Row t U a k) j x)
+
+untaken : {U : Type 0} → Settles false U (plan.Refused 17 0)
+untaken = record { kind = λ _. refl; value = λ e. never (cc); met = λ m o e. same-row e (by-kind refl) }
+
+taken-put : {U : Type 0} (b : ℕ) → (U → ⊥) → Settles true U (plan.Put b)
+taken-put b fit = record { kind = λ e. never (cc); value = λ _ u. absurd (fit u); met = λ m o e. never (cc) }
+
+taken-unfit : {U : Type 0} → U → Settles true U (plan.Refused 18 0)
+taken-unfit u = record { kind = λ e. never (cc); value = λ _ _. refl; met = λ m o e. same-row e (by-value refl u) }
+
+put-settles : {U : Type 0} (right : Bool) (b : ℕ) → (right ≡ false) ↔ U → Settles true U (putIf right b)
+unfolding putIf pick
+put-settles true b h = taken-put b (λ u. let e = h .1 u in never (cc))
+put-settles false b h = taken-unfit (h .0 refl)
+
+packed-settles : {U : Type 0} (k : Packed) → (k ≡ Unpacked) ↔ U → Settles true U (packedPlan k)
+packed-settles (Word w) h = taken-put w (λ u. let e = h .1 u in never (cc))
+packed-settles Unpacked h = taken-unfit (h .0 refl)
+
+-- an infinity and a NaN have no word
+no-word : (b : ℕ) → finite b ≡ false → packOf b ≡ Unpacked
+unfolding finite packOf
+no-word b e = pick-by (λ (k : Packed). k ≡ Unpacked) (eqb (b / 2 ^ 52 % 2 ^ 11) 2047) (λ _. refl) (λ i. never (let j : not (eqb (b / 2 ^ 52 % 2 ^ 11) 2047) ≡ true = ap not i in cc))
+
+packed-unfit : (b : ℕ) → b < 2 ^ 64 → (packOf b ≡ Unpacked) ↔ ((finite b ≡ false) ⊎ (RkWord ≡ RkWord × ((w : ℕ) → Means w b → ⊥)))
+packed-unfit b l = (λ e. inr (refl, refused-exactly b l .0 e), from)
+  where
+    from : (finite b ≡ false) ⊎ (RkWord ≡ RkWord × ((w : ℕ) → Means w b → ⊥)) → packOf b ≡ Unpacked
+    from (inl e) = no-word b e
+    from (inr n) = refused-exactly b l .1 (n .1)
+
+float-unfit : (b : ℕ) → (finite b ≡ false) ↔ ((finite b ≡ false) ⊎ (Float ≡ RkWord × ((w : ℕ) → Means w b → ⊥)))
+float-unfit b = (λ e. inl e, from)
+  where
+    from : (finite b ≡ false) ⊎ (Float ≡ RkWord × ((w : ℕ) → Means w b → ⊥)) → finite b ≡ false
+    from (inl e) = e
+    from (inr n) = let e = n .0 in never (cc)
+
+settles : (f : Field) (v : NewValue) (unique : ℕ) → Held v → Settles (takes f v) (Unfit f unique v) (planOf f v unique)
+unfolding floatPlan isTruth
+settles NoField (Number x) unique held = untaken
+settles NoField (Text i) unique held = untaken
+settles NoField (Truth t) unique held = untaken
+settles NoField (Error e) unique held = untaken
+settles Float (Number x) unique held = put-settles (finite (bitsOf x)) (bitsOf x) (float-unfit (bitsOf x))
+settles Float (Text i) unique held = untaken
+settles Float (Truth t) unique held = untaken
+settles Float (Error e) unique held = untaken
+settles RkWord (Number x) unique held = packed-settles (packOf (bitsOf x)) (packed-unfit (bitsOf x) (bits-of-lt x held))
+settles RkWord (Text i) unique held = untaken
+settles RkWord (Truth t) unique held = untaken
+settles RkWord (Error e) unique held = untaken
+settles TextIndex (Number x) unique held = untaken
+settles TextIndex (Text i) unique held = put-settles (ltb i unique) i (λ e. ltb-false i unique e, λ l. le-ltb i unique l)
+settles TextIndex (Truth t) unique held = untaken
+settles TextIndex (Error e) unique held = untaken
+settles TruthError (Number x) unique held = untaken
+settles TruthError (Text i) unique held = untaken
+settles TruthError (Truth t) unique held = put-settles (isTruth t) t (λ e. leb-false t 1 e, λ l. lt-leb t 1 l)
+settles TruthError (Error e) unique held = put-settles (isError e) (e + 256) (λ i. i, λ i. i)
+settles StoredResult (Number x) unique held = untaken
+settles StoredResult (Text i) unique held = untaken
+settles StoredResult (Truth t) unique held = untaken
+settles StoredResult (Error e) unique held = untaken
+
+-- ---- the n-th of a list
+nth-is : {A B : Type 0} (f : A → B) (d : B) {l : List A} {n : ℕ} {x : A} → Nth l n x → nth l n f d ≡ f x
+unfolding nth
+nth-is f d first = refl
+nth-is f d (next i) = nth-is f d i
+
+nth-none : {A B : Type 0} (f : A → B) (d : B) (l : List A) (n : ℕ) → length l ≤ n → nth l n f d ≡ d
+unfolding nth
+nth-none f d [] n h = refl
+nth-none f d (x ∷ l) zero h = absurd (omega arith)
+nth-none f d (x ∷ l) (suc n) h = nth-none f d l n (omega arith)
+
+nth-either : {A B : Type 0} (f : A → B) (d y : B) (G : Type 0) (l : List A) (n : ℕ) → ((x : A) → Nth l n x → f x ≡ y → G) → (length l ≤ n → d ≡ y → G) → nth l n f d ≡ y → G
+unfolding nth
+nth-either f d y G [] n some none h = none (omega arith) h
+nth-either f d y G (x ∷ l) zero some none h = some x first h
+nth-either f d y G (x ∷ l) (suc n) some none h = nth-either f d y G l n (λ z i. some z (next i)) (λ i. none (omega arith)) h
+
+-- ---- the correction
+module _ (s : List ℕ) (n row column : ℕ) (v : NewValue) (held : Held v) where
+  abbrev Met : ℕ → ℕ → Type 0
+  Met m o = Refusal s n row column v m o
+
+  same-met : {a b m o : ℕ} → refuses a b ≡ refuses m o → Met a b → Met m o
+  same-met {a} {b} {m} {o} e x =
+      let i : a ≡ m = cc in
+      let j : b ≡ o = cc in
+      subst (λ (k : ℕ). Met k o) i (subst (λ (k : ℕ). Met a k) j x)
+
+  row-met : (c : Cell) (u m o : ℕ) → Only s n row column c u → Row (takes (c .kind) v) (Unfit (c .kind) u v) m o → Met m o
+  row-met c u m o i (by-kind e) = kind i e
+  row-met c u m o i (by-value e x) = value i e x
+
+  plan-met : (c : Cell) (u m o : ℕ) → Only s n row column c u → (p : Plan) → planOf (c .kind) v u ≡ p → onPlan c p ≡ refuses m o → Met m o
+  plan-met c u m o i (plan.Put b) e h = never (cc)
+  plan-met c u m o i (plan.Refused a b) e h = same-met h (row-met c u a b i (settles (c .kind) v u held .met a b e))
+
+  module _ (g : Globals) (right : checkedOf s 0 ≡ Right g) where
+    cells-met : (m o : ℕ) (x : Sheet) → Nth (sheetsOf s) n x → (l : List Cell) → cellsAt row column (listedOf s x) ≡ l → onCells v (g .unique) l ≡ refuses m o → Met m o
+    cells-met m o x i [] e h = same-met h (no-cell right i e)
+    cells-met m o x i (c ∷ []) e h =
+        plan-met c (g .unique) m o (record { globals = g; passes = right; count = refl; sheet = x; nth = i; only = e }) (planOf (c .kind) v (g .unique)) refl h
+    cells-met m o x i (c ∷ d ∷ l) e h = same-met h (many right i e)
+
+  checked-met : (m o : ℕ) (k : Checked) → checkedOf s 0 ≡ k
+      → onChecked refuses (λ (g : Globals). nth (sheetsOf s) n (λ (x : Sheet). onCells v (g .unique) (cellsAt row column (listedOf s x))) (refuses 11 0)) k ≡ refuses m o → Met m o
+  checked-met m o (Right g) e h =
+      nth-either (λ (x : Sheet). onCells v (g .unique) (cellsAt row column (listedOf s x))) (refuses 11 0) (refuses m o) (Met m o) (sheetsOf s) n
+      (λ x i j. cells-met g e m o x i (cellsAt row column (listedOf s x)) refl j)
+      (λ i j. same-met j (no-sheet e i)) h
+  checked-met m o (Wrong a b) e h = same-met h (checked e)
+
+  -- what a correction comes to in a stream that passes
+  on-right : (g : Globals) → checkedOf s 0 ≡ Right g → correctionOf s n row column v ≡ nth (sheetsOf s) n (λ (x : Sheet). onCells v (g .unique) (cellsAt row column (listedOf s x))) (refuses 11 0)
+  unfolding correctionOf
+  on-right g e = ap (onChecked refuses (λ (g : Globals). nth (sheetsOf s) n (λ (x : Sheet). onCells v (g .unique) (cellsAt row column (listedOf s x))) (refuses 11 0))) e
+
+  on-sheet : (g : Globals) (x : Sheet) → checkedOf s 0 ≡ Right g → Nth (sheetsOf s) n x → correctionOf s n row column v ≡ onCells v (g .unique) (cellsAt row column (listedOf s x))
+  on-sheet g x e i = on-right g e ∙ nth-is (λ (x : Sheet). onCells v (g .unique) (cellsAt row column (listedOf s x))) (refuses 11 0) i
+
+  on-only : (c : Cell) (u : ℕ) → Only s n row column c u → correctionOf s n row column v ≡ onPlan c (planOf (c .kind) v u)
+  on-only c u i =
+      on-sheet (i .globals) (i .sheet) (i .passes) (i .nth) ∙ ap (onCells v (i .globals .unique)) (i .only) ∙ ap (λ (k : ℕ). onPlan c (planOf (c .kind) v k)) (i .count)
+
+  met-refused : (m o : ℕ) → Met m o → correctionOf s n row column v ≡ refuses m o
+  unfolding correctionOf
+  met-refused m o (checked e) = ap (onChecked refuses (λ (g : Globals). nth (sheetsOf s) n (λ (x : Sheet). onCells v (g .unique) (cellsAt row column (listedOf s x))) (refuses 11 0))) e
+  met-refused m o (no-sheet {g = g} e i) = on-right g e ∙ nth-none (λ (x : Sheet). onCells v (g .unique) (cellsAt row column (listedOf s x))) (refuses 11 0) (sheetsOf s) n i
+  met-refused m o (no-cell {g = g} {x = x} e i j) = on-sheet g x e i ∙ ap (onCells v (g .unique)) j
+  met-refused m o (many {g = g} {x = x} e i j) = on-sheet g x e i ∙ ap (onCells v (g .unique)) j
+  met-refused m o (kind {c = c} {unique = u} i e) = on-only c u i ∙ ap (onPlan c) (settles (c .kind) v u held .kind e)
+  met-refused m o (value {c = c} {unique = u} i e x) = on-only c u i ∙ ap (onPlan c) (settles (c .kind) v u held .value e x)
+
+pub refused-as-said : RefusedExactly
+unfolding correctionOf
+refused-as-said s n row column v m o held = (λ h. checked-met s n row column v held m o (checkedOf s 0) refl h, met-refused s n row column v held m o)
+
+module _ (s : List ℕ) (n row column : ℕ) (c : Cell) (u : ℕ) (x : Ieee.Float) (i : Only s n row column c u) (packed : c .kind ≡ RkWord) (held : T (fits binary64 x)) where
+  on-packed : correctionOf s n row column (Number x) ≡ onPlan c (packedPlan (packOf (bitsOf x)))
+  on-packed = on-only s n row column (Number x) held c u i ∙ ap (λ (f : Field). onPlan c (planOf f (Number x) u)) packed
+
+  none-means : (k : Packed) → packOf (bitsOf x) ≡ k → onPlan c (packedPlan k) ≡ refuses 18 0 → (w : ℕ) → Means w (bitsOf x) → ⊥
+  none-means (Word w) e h = never (cc)
+  none-means Unpacked e h = refused-exactly (bitsOf x) (bits-of-lt x held) .0 e
+
+pub packed-as-said : PackedExactly
+packed-as-said s n row column c u x i k held f = (
+  λ h. none-means s n row column c u x i k held (packOf (bitsOf x)) refl (sym (on-packed s n row column c u x i k held) ∙ h),
+  λ none. on-packed s n row column c u x i k held ∙ ap (λ (d : Packed). onPlan c (packedPlan d)) (refused-exactly (bitsOf x) (bits-of-lt x held) .1 none),
+)

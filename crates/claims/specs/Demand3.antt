@@ -1,0 +1,134 @@
+-- Demand 3, a claim for each of its sentences.
+use Prim.Native.Nat.{ℕ, _+_, _≤_, _<_}
+use mathlib.Core.Path.{_≡_}
+use mathlib.Core.List.{List, [], _∷_}
+use mathlib.Core.Logic.{_⊎_, _↔_}
+use mathlib.Core.Bool.{Bool, true, false}
+use lib.Dec.{T}
+use lib.Ieee as Ieee
+use lib.Ieee.{binary64, fits}
+use lib.ListN.{length, getD}
+use Rattle.le.specs.Bytes.{numAt}
+use Rattle.boolerr.specs.Boolerr.{isError}
+use Rattle.number.specs.Float64.{bitsOf}
+use Rattle.number.specs.Packing.{Means}
+use Rattle.value.specs.declared.Field.{Field}
+use Rattle.value.specs.declared.Field.the-variants.{NoField, Float, RkWord, TextIndex, TruthError, StoredResult}
+use Rattle.value.specs.Value.{widthOf, valueOf}
+use Rattle.cell.specs.declared.Cell.{Cell}
+use Rattle.change.specs.declared.NewValue.{NewValue}
+use Rattle.change.specs.declared.NewValue.the-variants.{Number, Text, Truth, Error}
+use Rattle.change.specs.Change.{newOf, finite}
+use Rattle.kept.specs.Claims.{Held}
+use Rattle.sheetlist.specs.Agreement.{Sheet}
+use Rattle.globals.specs.declared.Globals.{Globals}
+use Rattle.globals.specs.Sheets.{sheetsOf}
+use Rattle.workbook.specs.declared.Checked.the-variants.{Right, Wrong}
+use Rattle.workbook.specs.declared.Answer.{Answer}
+use Rattle.workbook.specs.declared.Answer.the-variants.{Passed, Refused}
+use Rattle.workbook.specs.Check.{checkedOf, checkOf}
+use Rattle.reading.specs.Reading.{listedOf, readingOf}
+use Rattle.correction.specs.Correction.{refuses, writes, cellsAt, correctionOf, streamAfter}
+use Rattle.chain.specs.Chain.{Nth}
+use Rattle.reread.specs.Replaced.{replaced}
+
+-- what holds of each granted correction: s is the stream, f the kind and p the place of the value field, t the stream after it
+abbrev pub Granted : (List ℕ → ℕ → ℕ → ℕ → NewValue → Field → ℕ → List ℕ → Type 0) → Type 0
+Granted P =
+    (s : List ℕ) (n row column : ℕ) (v : NewValue) (f : Field) (p b : ℕ) → Held v → correctionOf s n row column v ≡ writes f p b
+    → P s n row column v f p (streamAfter s (writes f p b))
+
+-- the value field holds the new value
+abbrev pub HoldsNew : Type 0
+HoldsNew = Granted (λ s n row column v f p t. valueOf f (numAt t (widthOf f) p) ≡ newOf v)
+
+-- every other byte is as it was, and no byte is gone or added
+abbrev pub OthersStay : Type 0
+OthersStay =
+    Granted (λ s n row column v f p t. (length t ≡ length s) × ((j : ℕ) → (j < p) ⊎ (p + widthOf f ≤ j) → getD t j 0 ≡ getD s j 0))
+
+abbrev pub passed : Answer → Bool
+passed (Passed sheets strings) = true
+passed (Refused number offset) = false
+
+-- the new stream passes the check, with as many sheets and strings
+abbrev pub Passes : Type 0
+Passes = Granted (λ s n row column v f p t. (passed (checkOf t) ≡ true) × (checkOf t ≡ checkOf s))
+
+-- it reads the same but for that cell
+abbrev pub ReadsNew : Type 0
+ReadsNew = Granted (λ s n row column v f p t. readingOf t ≡ replaced n row column (newOf v) (readingOf s))
+
+-- ---- a correction is refused exactly when the table says
+-- a number goes to NUMBER, RK or MULRK, a text index to LABELSST, truth or error to BOOLERR
+abbrev pub takesNumber : Field → Bool
+takesNumber NoField = false
+takesNumber Float = true
+takesNumber RkWord = true
+takesNumber TextIndex = false
+takesNumber TruthError = false
+takesNumber StoredResult = false
+
+abbrev pub takesIndex : Field → Bool
+takesIndex NoField = false
+takesIndex Float = false
+takesIndex RkWord = false
+takesIndex TextIndex = true
+takesIndex TruthError = false
+takesIndex StoredResult = false
+
+abbrev pub takesPair : Field → Bool
+takesPair NoField = false
+takesPair Float = false
+takesPair RkWord = false
+takesPair TextIndex = false
+takesPair TruthError = true
+takesPair StoredResult = false
+
+abbrev pub takes : Field → NewValue → Bool
+takes f (Number x) = takesNumber f
+takes f (Text i) = takesIndex f
+takes f (Truth t) = takesPair f
+takes f (Error e) = takesPair f
+
+-- infinity or not-a-number; for a packed cell, no undivided word means it; an index not below unique; a truth over 1; an unknown code
+abbrev pub Unfit : Field → ℕ → NewValue → Type 0
+Unfit f unique (Number x) = (finite (bitsOf x) ≡ false) ⊎ ((f ≡ RkWord) × ((w : ℕ) → Means w (bitsOf x) → ⊥))
+Unfit f unique (Text i) = unique ≤ i
+Unfit f unique (Truth t) = 1 < t
+Unfit f unique (Error e) = isError e ≡ false
+
+-- the one cell of the address in sheet n of a stream that passes
+pub record Only (s : List ℕ) (n row column : ℕ) (c : Cell) (unique : ℕ) : Type 0 where
+  pub globals : Globals
+  pub passes : checkedOf s 0 ≡ Right globals
+  pub count : globals .unique ≡ unique
+  pub sheet : Sheet
+  pub nth : Nth (sheetsOf s) n sheet
+  pub only : cellsAt row column (listedOf s sheet) ≡ c ∷ []
+
+-- the row of the table that a correction meets: its number and offset
+pub data Refusal (s : List ℕ) (n row column : ℕ) (v : NewValue) : ℕ → ℕ → Type 0 where
+  -- any refusal that the check would give
+  checked : {m o : ℕ} → checkedOf s 0 ≡ Wrong m o → Refusal s n row column v m o
+  -- the sheet is absent
+  no-sheet : {g : Globals} → checkedOf s 0 ≡ Right g → length (sheetsOf s) ≤ n → Refusal s n row column v 11 0
+  -- the cell is absent
+  no-cell : {g : Globals} {x : Sheet} → checkedOf s 0 ≡ Right g → Nth (sheetsOf s) n x → cellsAt row column (listedOf s x) ≡ [] → Refusal s n row column v 11 0
+  -- two or more cells have the address
+  many : {g : Globals} {x : Sheet} {c d : Cell} {l : List Cell} → checkedOf s 0 ≡ Right g → Nth (sheetsOf s) n x → cellsAt row column (listedOf s x) ≡ c ∷ d ∷ l → Refusal s n row column v 16 0
+  -- the cell's kind doesn't take this kind of value
+  kind : {c : Cell} {unique : ℕ} → Only s n row column c unique → takes (c .kind) v ≡ false → Refusal s n row column v 17 0
+  -- the value doesn't fit
+  value : {c : Cell} {unique : ℕ} → Only s n row column c unique → takes (c .kind) v ≡ true → Unfit (c .kind) unique v → Refusal s n row column v 18 0
+
+abbrev pub RefusedExactly : Type 0
+RefusedExactly =
+    (s : List ℕ) (n row column : ℕ) (v : NewValue) (m o : ℕ) → Held v → (correctionOf s n row column v ≡ refuses m o) ↔ Refusal s n row column v m o
+
+-- in a stream that passes, where a packed cell's address occurs once in its sheet, a finite number is refused exactly when no undivided packed word
+-- means it
+abbrev pub PackedExactly : Type 0
+PackedExactly =
+    (s : List ℕ) (n row column : ℕ) (c : Cell) (unique : ℕ) (x : Ieee.Float) → Only s n row column c unique → c .kind ≡ RkWord → T (fits binary64 x) → finite (bitsOf x) ≡ true
+    → (correctionOf s n row column (Number x) ≡ refuses 18 0) ↔ ((w : ℕ) → Means w (bitsOf x) → ⊥)

@@ -1,0 +1,152 @@
+-- The laws of a fetch, with what the check gave as the proof has it. Assumes nothing.
+use Prim.Native.Nat.{ℕ, zero, suc, _+_, _≤_, _<_}
+use mathlib.Core.Path.{_≡_, refl, sym, ap, _∙_, subst}
+use mathlib.Core.List.{List, [], _∷_}
+use mathlib.Core.Logic.{_⊎_, inl, inr}
+use native.Mathlib.Omega.{arith}
+use lib.ListN.{length, getD}
+use lib.Dec.{ltb}
+use Rattle.walk.proofs.Choice.{pick-any, pick-eq, pick-ne}
+use Rattle.walk.specs.Items.{nth}
+use Rattle.le.specs.Bytes.{u16At}
+use Rattle.strings.specs.declared.Fetched.{Fetched}
+use Rattle.strings.specs.declared.Fetched.the-variants.{Refused}
+use Rattle.strings.specs.Table.{placesOf, stringsOf, unitsOf, fetchedOf, bufferOf}
+use Rattle.strings.proofs.Local.{strings-at, strings-length}
+use Rattle.sheetlist.specs.declared.Agreement.{Agreement}
+use Rattle.sheetlist.specs.declared.Agreement.the-variants.{Agree, Disagree}
+use Rattle.sheetlist.specs.Agreement.{agreementOf}
+use Rattle.globals.specs.declared.Globals.{Globals}
+use Rattle.globals.specs.declared.Ended.{Ended}
+use Rattle.globals.specs.declared.Ended.the-variants as globals
+use Rattle.globals.specs.Globals.{globalsOf}
+use Rattle.globals.specs.Sheets.{sheetsOf}
+use Rattle.globals.proofs.Table.{Stands, TableTold, table-told}
+use Rattle.toplevel.specs.declared.Walked.{Walked}
+use Rattle.toplevel.specs.declared.Walked.the-variants as walked
+use Rattle.toplevel.specs.TopLevel.{topsFrom, bofsFrom}
+use Rattle.workbook.specs.declared.Checked.{Checked}
+use Rattle.workbook.specs.declared.Checked.the-variants.{Right, Wrong}
+use Rattle.workbook.specs.Check.{agreed, onWalked, onGlobals, checkedOf, onChecked}
+use Rattle.reading.specs.Reading.{stringsAt}
+use Rattle.fetch.specs.Fetch.{answerIn, answerOf, bufferIn, bufferAfter}
+
+-- ---- the n-th of a list
+module _ {A B : Type 0} (f : A → B) (d : B) where
+  nth-there : (l : List A) (n : ℕ) → n < length l → (a : A) → f (getD l n a) ≡ nth l n f d
+  unfolding nth
+  nth-there [] n h a = absurd (omega arith)
+  nth-there (x ∷ l) zero h a = refl
+  nth-there (x ∷ l) (suc n) h a = nth-there l n (omega arith) a
+
+  nth-past : (l : List A) (n : ℕ) → length l ≤ n → d ≡ nth l n f d
+  unfolding nth
+  nth-past [] n h = refl
+  nth-past (x ∷ l) zero h = absurd (omega arith)
+  nth-past (x ∷ l) (suc n) h = nth-past l n (omega arith)
+
+-- ---- the globals of a stream that passes
+module _ (s : List ℕ) (u : ℕ) (g : Globals) where
+  by-agreed : (b : Globals) (x : Agreement) → Right g ≡ agreed b x → b ≡ g
+  by-agreed b Agree h = cc
+  by-agreed b (Disagree o) h = absurd (let z : _≡_ {A = ℕ} 0 1 = cc in omega arith)
+
+  by-walked : (b : Globals) (x : Walked) → Right g ≡ onWalked s b x → b ≡ g
+  by-walked b walked.Passed h = by-agreed b (agreementOf (sheetsOf s) (bofsFrom s (b .unique) (b .at))) h
+  by-walked b (walked.Refused n o) h = absurd (let z : _≡_ {A = ℕ} 0 1 = cc in omega arith)
+
+  by-globals : (x : Ended) → Right g ≡ onGlobals s x → x ≡ globals.At g
+  by-globals (globals.At b) h = ap globals.At (by-walked b (topsFrom s (b .unique) (b .at)) h)
+  by-globals (globals.Refused n o) h = absurd (let z : _≡_ {A = ℕ} 0 1 = cc in omega arith)
+
+  pub checked-globals : Right g ≡ checkedOf s u → globalsOf s u ≡ globals.At g
+  unfolding checkedOf
+  checked-globals h =
+      pick-any (λ (x : Checked). Right g ≡ x → globalsOf s u ≡ globals.At g) (ltb 16777216 (length s))
+      (λ i. absurd (let z : _≡_ {A = ℕ} 0 1 = cc in omega arith))
+      (by-globals (globalsOf s u)) h
+
+-- ---- its strings
+strings-none : (s : List ℕ) (p : ℕ) → p ≡ 0 → stringsAt s p ≡ []
+unfolding stringsAt
+strings-none s p h = sym (pick-eq _ _ _ _ _ h refl)
+
+strings-some : (s : List ℕ) (p : ℕ) → 0 < p → stringsAt s p ≡ stringsOf s p (p + 4 + u16At s (p + 2))
+unfolding stringsAt
+strings-some s p h = sym (pick-ne _ _ _ p 0 (λ i. omega arith) refl)
+
+told-count : (s : List ℕ) (g : Globals) → TableTold s 0 g → length (stringsAt s (g .table)) ≡ g .unique
+told-count s g (inl t) = ap length (strings-none s (g .table) (t .0)) ∙ sym (t .1)
+told-count s g (inr t) = ap length (strings-some s (g .table) (t .later)) ∙ strings-length s (g .table) (g .table + 4 + u16At s (g .table + 2)) ∙ t .count
+
+told-stands : (s : List ℕ) (g : Globals) (i : ℕ) → i < g .unique → TableTold s 0 g → Stands s (g .table) (g .unique)
+told-stands s g i l (inl t) = absurd (omega arith)
+told-stands s g i l (inr t) = t
+
+-- ---- the answer and the buffer
+module _ (s : List ℕ) (i : ℕ) (b : List ℕ) {r : Checked} (is : r ≡ checkedOf s 0) where
+  abbrev answerBy : Checked → Fetched
+  answerBy x = onChecked Refused (answerIn s i b) x
+
+  abbrev bufferBy : Checked → List ℕ
+  bufferBy x = onChecked (λ _ _. b) (bufferIn s i b) x
+
+  pub fetch-wrong : (n o : ℕ) → r ≡ Wrong n o → Refused n o ≡ answerOf s i b
+  unfolding answerOf
+  fetch-wrong n o h = ap answerBy (sym h ∙ is)
+
+  pub buffer-wrong : (n o : ℕ) → r ≡ Wrong n o → b ≡ bufferAfter s i b
+  unfolding bufferAfter
+  buffer-wrong n o h = ap bufferBy (sym h ∙ is)
+
+  module _ (g : Globals) (h : r ≡ Right g) where
+    told : TableTold s 0 g
+    told = table-told s 0 g (checked-globals s 0 g (sym h ∙ is))
+
+    pub fetch-absent : g .unique ≤ i → Refused 11 0 ≡ answerOf s i b
+    unfolding answerOf
+    fetch-absent l = nth-past (fetchedOf (length b)) (Refused 11 0) (stringsAt s (g .table)) i (omega (arith, told-count s g told)) ∙ ap answerBy (sym h ∙ is)
+
+    pub buffer-absent : g .unique ≤ i → b ≡ bufferAfter s i b
+    unfolding bufferAfter
+    buffer-absent l = nth-past _ b (stringsAt s (g .table)) i (omega (arith, told-count s g told)) ∙ ap bufferBy (sym h ∙ is)
+
+    module _ (l : i < g .unique) where
+      stands : Stands s (g .table) (g .unique)
+      stands = told-stands s g i l told
+
+      pub table-whole : g .table + 4 + u16At s (g .table + 2) ≤ length s
+      table-whole = stands .within
+
+      module _ (e j : ℕ) (end : e ≡ g .table + 4 + u16At s (g .table + 2)) (same : j ≡ i) where
+        pub table-low : g .table + 4 ≤ e
+        table-low = omega arith
+
+        pub table-within : e ≤ length s
+        table-within = let w = stands .within in omega arith
+
+        pub table-string : j < length (placesOf s (g .table) e)
+        table-string = rw end (let c = stands .count in omega arith)
+
+        units-are : unitsOf s (g .table) e j ≡ getD (stringsAt s (g .table)) i []
+        units-are = rw (end, same) (sym (ap (λ (x : List (List ℕ)). getD x i []) (strings-some s (g .table) (stands .later)) ∙ strings-at s (g .table) (g .table + 4 + u16At s (g .table + 2)) i))
+
+        pub fetch-there : (y : Fetched) → y ≡ fetchedOf (length b) (unitsOf s (g .table) e j) → y ≡ answerOf s i b
+        unfolding answerOf
+        fetch-there y k =
+            k ∙ ap (fetchedOf (length b)) units-are
+            ∙ nth-there (fetchedOf (length b)) (Refused 11 0) (stringsAt s (g .table)) i (omega (arith, told-count s g told)) []
+            ∙ ap answerBy (sym h ∙ is)
+
+        pub buffer-there : (c : List ℕ) → c ≡ bufferOf b (unitsOf s (g .table) e j) → c ≡ bufferAfter s i b
+        unfolding bufferAfter
+        buffer-there c k =
+            k ∙ ap (bufferOf b) units-are
+            ∙ nth-there (bufferOf b) b (stringsAt s (g .table)) i (omega (arith, told-count s g told)) []
+            ∙ ap bufferBy (sym h ∙ is)
+
+pub ruleset fetch-laws = (fetch-wrong, fetch-absent, fetch-there)
+
+pub ruleset buffer-laws = (buffer-wrong, buffer-absent, buffer-there)
+
+pub ruleset table-laws = (table-whole, table-low, table-within, table-string)

@@ -1,0 +1,112 @@
+-- The cells of each sheet of a corrected stream. Assumes nothing.
+use Prim.Native.Nat.{ℕ, _+_, _-_, _*_, _≤_, max}
+use mathlib.Core.Path.{_≡_, refl, sym, ap, ap₂, _∙_}
+use mathlib.Core.List.{List, [], _∷_, map}
+use mathlib.Core.Bool.{Bool, true, false}
+use mathlib.Core.Logic.{_⊎_, inl, inr}
+use native.Mathlib.Omega.{arith}
+use lib.ListN.{length}
+use lib.Dec.{eqb}
+use borrow.Author.Tests.{eqb-true, eqb-false}
+use Rattle.walk.proofs.Choice.{pick-any, pick-by}
+use Rattle.record.proofs.Laws.{whole}
+use Rattle.value.specs.declared.CellValue.{CellValue}
+use Rattle.cell.specs.declared.Cell.{Cell}
+use Rattle.cell.specs.Cells.{shapeOf, fieldOf, cellOf, tokensOf}
+use Rattle.sheetlist.specs.Agreement.{Sheet}
+use Rattle.globals.specs.declared.Globals.{Globals}
+use Rattle.reading.specs.declared.Place.{Place}
+use Rattle.reading.specs.Cells.{placeAt, cellItem, remaining, listedFrom}
+use Rattle.reading.specs.Reading.{startBy, listedOf, rowsOf, CellReading, cellReading}
+use Rattle.chain.specs.Chain.{Reach, Beside, Every}
+use Rattle.chain.specs.Tops.{SheetStands}
+use Rattle.chain.proofs.Chain.{over, beside-cases, beside-reach}
+use Rattle.upheld.specs.Granted.{Listed}
+use Rattle.reread.specs.Replaced.{withValue}
+use Rattle.reread.specs.Parts.{fieldFrom, Corrected, written, ListedTo}
+use Rattle.reread.proofs.Fields.{places-differ, same-record}
+use Rattle.reread.proofs.Records.{Stands, kept-item}
+use Rattle.reread.proofs.Found.{listed-here, listed-field, sheet-start, listed-none}
+use Rattle.reread.proofs.Lists.{map-every, map-map, collect-map}
+use Rattle.reread.proofs.Items.{written-here, written-other, field-apart, item-written, tokens-written}
+
+-- ---- the row count
+rows-written : (p : ℕ) (v : CellValue) (l : List Cell) → rowsOf (map (written p v) l) ≡ rowsOf l
+unfolding rowsOf written
+rows-written p v [] = refl
+rows-written p v (c ∷ l) = ap₂ (λ (x y : ℕ). max (x + 1) y) (pick-any (λ (d : Cell). d .row ≡ c .row) (eqb (c .field) p) refl refl) (rows-written p v l)
+
+-- ---- the corrected stream
+module _ {s s′ : List ℕ} {a t z e k : ℕ} {v : CellValue} (c : Corrected s s′ a t z e k v) where
+  abbrev p₀ : ℕ
+  p₀ = fieldFrom t a k
+
+  abbrev write : Cell → Cell
+  write = written p₀ v
+
+  abbrev Near : ℕ → Type 0
+  Near x = Beside s a e x
+
+  near-reach : {x y : ℕ} → Reach s x y → Near x → Near y
+  near-reach q = beside-reach s a e (over s (c .whole)) q
+
+  -- ---- the listing of a sheet
+  module _ (g : Globals) (x : Sheet) (i : SheetStands s g x) (near : Near (x .position)) where
+    listing-written : (w : Place) → Stands s (g .unique) (x .position) (i .end) w → listedFrom s′ w ≡ map write (listedFrom s w)
+    unfolding listedFrom remaining
+    listing-written w p =
+        collect-map (cellItem s) (cellItem s′) write (Stands s (g .unique) (x .position) (i .end)) (ListedTo s (x .position) (i .end))
+        (kept-item s (g .unique) (x .position) (i .end)) (λ w p. item-written c w (near-reach (p .0) near))
+        (remaining s) (remaining s′) w (ap (λ (n : ℕ). (n - w .at) * 257 + (257 - w .part)) (c .size)) p
+
+    pub sheet-written : listedOf s′ x ≡ map write (listedOf s x)
+    unfolding startBy
+    sheet-written =
+        ap (λ (n : ℕ). listedFrom s′ (startBy n (x .position) (x .kind))) (sym (c .size))
+        ∙ pick-by (λ (w : Place). listedFrom s′ w ≡ map write (listedFrom s w)) (eqb (x .kind) 1)
+        (λ q. listing-written (placeAt (x .position + 20) 0) (sheet-start s g x i (eqb-true (x .kind) 1 q)))
+        (λ _. let l = c .size in listed-none s′ (length s) (omega arith) ∙ ap (map write) (sym (listed-none s (length s) (omega arith))))
+
+    pub sheet-rows : rowsOf (listedOf s′ x) ≡ rowsOf (listedOf s x)
+    sheet-rows = ap rowsOf sheet-written ∙ rows-written p₀ v (listedOf s x)
+
+    pub sheet-read : (f : CellReading → CellReading) → Every (λ d. cellReading s′ (write d) ≡ f (cellReading s d)) (listedOf s x) → map (cellReading s′) (listedOf s′ x) ≡ map f (map (cellReading s) (listedOf s x))
+    sheet-read f h =
+        ap (map (cellReading s′)) sheet-written ∙ map-map write (cellReading s′) (listedOf s x)
+        ∙ map-every (λ d. cellReading s′ (write d)) (λ d. f (cellReading s d)) (listedOf s x) h
+        ∙ sym (map-map (cellReading s) f (listedOf s x))
+
+  -- ---- each cell
+  module _ (from : ℕ) (d : Cell) (i : Listed s from d) (near : Near from) where
+    near-cell : Near (i .at)
+    near-cell = near-reach (i .reached) near
+
+    tokens-of : tokensOf s′ d ≡ tokensOf s d
+    tokens-of = tokens-written c (i .at) (i .type) (i .size) (i .end) (i .part) d (i .header) (listed-here i .below) (listed-here i .cell) near-cell
+
+    -- the one whose value field was written
+    same-part : i .type ≡ t → i .at ≡ a → (b : Bool) → eqb (i .part) k ≡ b → fieldFrom (i .type) (i .at) (i .part) ≡ p₀ → i .part ≡ k
+    same-part u l true n q = eqb-true (i .part) k n
+    same-part u l false n q = absurd (places-differ (fieldOf (shapeOf t)) a (i .part) k (eqb-false (i .part) k n) ((λ y. fieldFrom (sym u y) (sym l y) (i .part)) ∙ q))
+
+    pub here-is : d .field ≡ p₀ → d ≡ cellOf s (fieldOf (shapeOf t)) a k
+    here-is q = go (beside-cases s a e (over s (c .whole)) (i .at) (i .end) near-cell (over s (i .header)))
+      where
+        r : fieldFrom (i .type) (i .at) (i .part) ≡ p₀
+        r = sym (listed-field i) ∙ q
+
+        go : (i .at ≡ a) ⊎ ((i .end ≤ a) ⊎ (e ≤ i .at)) → d ≡ cellOf s (fieldOf (shapeOf t)) a k
+        go (inl l) =
+            let u = same-record c (i .header) l .0 in
+            let w = same-part u l (eqb (i .part) k) refl r in
+            listed-here i .cell ∙ (λ y. cellOf s (fieldOf (shapeOf (u y))) (l y) (w y))
+        go (inr l) = absurd (field-apart c (i .at) (i .type) (i .size) (i .end) (i .part) (i .header) (listed-here i .below) l r)
+
+    -- any other reads the same
+    pub other-read : (d .field ≡ p₀ → ⊥) → cellReading s′ (write d) ≡ cellReading s d
+    other-read n = ap (cellReading s′) (written-other p₀ v d n) ∙ (λ y. record { row = d .row; column = d .column; value = d .value; tokens = tokens-of y })
+
+    -- and that one has the new value
+    pub here-read : d .field ≡ p₀ → cellReading s′ (write d) ≡ withValue v (cellReading s d)
+    unfolding tokensOf
+    here-read q = ap (cellReading s′) (written-here p₀ v d q) ∙ (λ y. record { row = d .row; column = d .column; value = v; tokens = tokens-of y })

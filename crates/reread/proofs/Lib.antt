@@ -1,0 +1,10 @@
+pub mod Lists
+pub mod Fields
+pub mod Records
+pub mod Found
+pub mod Items
+pub mod Cells
+pub mod Names
+pub mod Strings
+pub mod Reading
+pub mod Values

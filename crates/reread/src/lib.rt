@@ -1,0 +1,1 @@
+// Theorems on the reading of a stream after a granted correction. No code.

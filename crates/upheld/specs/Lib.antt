@@ -1,0 +1,3 @@
+pub mod Upheld
+pub mod Local
+pub mod Granted
