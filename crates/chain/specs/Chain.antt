@@ -5,6 +5,7 @@ use mathlib.Core.List.{List, [], _∷_}
 use mathlib.Core.Logic.{_⊎_}
 use Rattle.record.specs.declared.Header.the-variants.{Record}
 use Rattle.record.specs.Record.{headerAt}
+pub use Rattle.reading.specs.Claims.{Every}
 
 -- y is reached from x by steps
 pub data Chain (Step : ℕ → ℕ → Type 0) : ℕ → ℕ → Type 0 where
@@ -26,11 +27,6 @@ abbrev pub Beside : List ℕ → ℕ → ℕ → ℕ → Type 0
 Beside s a e x = Reach s x a ⊎ (e ≤ x)
 
 -- ---- lists
--- each has the property
-abbrev pub Every : {A : Type 0} → (A → Type 0) → List A → Type 0
-Every P [] = Unit {0}
-Every P (x ∷ l) = P x × Every P l
-
 -- x is the n-th, counted from 0
 pub data Nth {A : Type 0} : List A → ℕ → A → Type 0 where
   first : {x : A} {l : List A} → Nth (x ∷ l) zero x

@@ -1,0 +1,74 @@
+-- The answers as C sees them: the refusal's number, 0 where there is none, its offset, and what is answered; what isn't is 0.
+use Prim.Native.Nat.{ℕ}
+use mathlib.Core.Bool.{Bool, true, false}
+use mathlib.Core.List.{List}
+use lib.Dec.{eqb}
+use lib.Ieee.{Float}
+use lib.ListN.{length}
+use Rattle.walk.specs.Choice.{pick}
+use Rattle.formula.specs.declared.Judgement.{Judgement}
+use Rattle.formula.specs.declared.Judgement.the-variants as judgement
+use Rattle.workbook.specs.declared.Answer as workbook
+use Rattle.workbook.specs.declared.Answer.the-variants as checked
+use Rattle.change.specs.declared.NewValue.{NewValue}
+use Rattle.change.specs.declared.NewValue.the-variants.{Number, Text, Truth, Error}
+use Rattle.change.specs.declared.Answer as change
+use Rattle.change.specs.declared.Answer.the-variants as changed
+use Rattle.strings.specs.declared.Fetched.{Fetched}
+use Rattle.strings.specs.declared.Fetched.the-variants as fetched
+use Rattle.reading.specs.Reading.{nameAt}
+use Rattle.listing.specs.declared.Start.{Start}
+use Rattle.listing.specs.declared.Start.the-variants as start
+use Rattle.listing.specs.declared.SheetList.{SheetList}
+use Rattle.listing.specs.declared.SheetList.the-variants as sheetList
+use Rattle.listing.specs.declared.NextSheet.{NextSheet}
+use Rattle.listing.specs.declared.NextSheet.the-variants as nextSheet
+use Rattle.station_c.specs.declared.Check.{Check}
+use Rattle.station_c.specs.declared.Answer.{Answer}
+use Rattle.station_c.specs.declared.Units.{Units}
+use Rattle.station_c.specs.declared.Sheets.{Sheets}
+use Rattle.station_c.specs.declared.Sheet.{Sheet}
+use Rattle.station_c.specs.declared.Cells.{Cells}
+
+abbrev pub checkSeen : workbook.Answer → Check
+checkSeen (checked.Passed sheets strings) = record { number = 0; offset = 0; sheets = sheets; strings = strings }
+checkSeen (checked.Refused n o) = record { number = n; offset = o; sheets = 0; strings = 0 }
+
+abbrev pub judgeSeen : Judgement → Answer
+judgeSeen judgement.Accepted = record { number = 0; offset = 0 }
+judgeSeen (judgement.Refused n o) = record { number = n; offset = o }
+
+abbrev pub correctSeen : change.Answer → Answer
+correctSeen changed.Granted = record { number = 0; offset = 0 }
+correctSeen (changed.Refused n o) = record { number = n; offset = o }
+
+abbrev pub fetchSeen : Fetched → Units
+fetchSeen (fetched.Units n) = record { number = 0; offset = 0; units = n }
+fetchSeen (fetched.Refused n o) = record { number = n; offset = o; units = 0 }
+
+abbrev pub sheetsSeen : SheetList → Sheets
+sheetsSeen (sheetList.At p) = record { number = 0; offset = 0; place = p }
+sheetsSeen (sheetList.Refused n o) = record { number = n; offset = o; place = 0 }
+
+abbrev pub cellsSeen : Start → Cells
+cellsSeen (start.At v) = record { number = 0; offset = 0; at = v .at; part = v .part; level = v .level }
+cellsSeen (start.Refused n o) = record { number = n; offset = o; at = 0; part = 0; level = 0 }
+
+-- a sheet's name starts 12 bytes after its BOUNDSHEET's header
+abbrev pub sheetSeen : List ℕ → NextSheet → Sheet
+sheetSeen s (nextSheet.Sheet h t w v n) = record {
+  ended = false;
+  header = h;
+  size = length (nameAt s h);
+  width = w;
+  kind = t;
+  at = v .at;
+  part = v .part;
+  level = v .level;
+  next = n;
+}
+sheetSeen s nextSheet.End = record { ended = true; header = 0; size = 0; width = 0; kind = 0; at = 0; part = 0; level = 0; next = 0 }
+
+-- a new value by its kind: 0 a number, 1 a text index, 2 a truth, else an error code
+unfoldable pub newValue : ℕ → Float → ℕ → ℕ → NewValue
+newValue kind x index byte = pick (eqb kind 0) (Number x) (pick (eqb kind 1) (Text index) (pick (eqb kind 2) (Truth byte) (Error byte)))

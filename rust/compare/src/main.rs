@@ -1,0 +1,280 @@
+//! compare [COUNT [FIRST]]: asks the proved library and the second reader the same questions about made streams, formulas and corrections, one of
+//! each seed from FIRST (0) on. Answers, offsets, and every lent byte and unit before and after must agree. Prints how often each refusal was met; the
+//! exit status is 1 where there was a difference, or where a refusal was met fewer than a hundred times in a run of 100,000 seeds or more.
+
+use std::fmt::Debug;
+use std::process::ExitCode;
+use std::time::Instant;
+
+/// Refusals by number; 0 counts the answers without one.
+type Counts = [u64; 19];
+
+/// Each refusal is to be met this often, in a run of so many seeds or more.
+const LEAST: u64 = 100;
+const WHOLE: u64 = 100_000;
+
+type Outcome<A> = Result<A, (u8, usize)>;
+
+fn ours<A>(answer: Result<A, station::Refusal>) -> Outcome<A> {
+    answer.map_err(|refusal| (refusal.number, refusal.offset))
+}
+
+fn theirs<A>(answer: Result<A, second_reader::Refusal>) -> Outcome<A> {
+    answer.map_err(|refusal| (refusal.number, refusal.offset))
+}
+
+struct Comparison {
+    differences: u64,
+    counts: Counts,
+}
+
+impl Comparison {
+    fn hold<A: Debug + PartialEq>(&mut self, question: &str, seed: u64, ours: A, theirs: A) {
+        if ours != theirs {
+            self.differences += 1;
+            if self.differences <= 20 {
+                println!("{question}, seed {seed}: ours {ours:?}, theirs {theirs:?}");
+            }
+        }
+    }
+
+    fn count<A>(&mut self, outcome: &Outcome<A>) {
+        let number = outcome.as_ref().err().map_or(0, |refusal| refusal.0);
+        self.counts[number as usize] += 1;
+    }
+
+    fn check(&mut self, seed: u64, stream: &[u8]) -> bool {
+        let one =
+            ours(station::check(stream)).map(|passed| (passed.sheets, passed.strings as usize));
+        let other = theirs(second_reader::check(stream))
+            .map(|passed| (passed.sheets as usize, passed.strings as usize));
+        self.count(&one);
+        let passed = one.is_ok();
+        self.hold("check", seed, one, other);
+        passed
+    }
+
+    fn list(&mut self, seed: u64, stream: &[u8]) {
+        let reading = theirs(second_reader::read(stream));
+        let sheets = ours(station::sheets(stream));
+        match (sheets, reading) {
+            (Ok(sheets), Ok(reading)) => {
+                let all: Vec<_> = sheets.collect();
+                self.hold("sheets", seed, all.len(), reading.sheets.len());
+                for (sheet, other) in all.iter().zip(&reading.sheets) {
+                    self.sheet(seed, stream, sheet, other);
+                }
+                self.strings(seed, stream, &reading.strings);
+            }
+            (sheets, reading) => self.hold("list", seed, sheets.err(), reading.err()),
+        }
+        let number = streams::sheet(seed, stream);
+        let mut other = Vec::new();
+        let listed = theirs(second_reader::list_cells(stream, number as usize, |cell| {
+            other.push(of_theirs(cell))
+        }));
+        let cells = ours(station::cells(stream, number))
+            .map(|cells| cells.map(|cell| of_ours(&cell)).collect::<Vec<_>>());
+        self.count(&cells);
+        self.hold("cells", seed, cells, listed.map(|()| other));
+    }
+
+    fn sheet(
+        &mut self,
+        seed: u64,
+        stream: &[u8],
+        sheet: &station::Sheet<'_>,
+        other: &second_reader::Sheet,
+    ) {
+        self.hold("name", seed, sheet.name, &stream[other.name.clone()]);
+        self.hold("width", seed, sheet.width == 2, other.wide);
+        self.hold("type", seed, sheet.kind, other.sheet_type as u8);
+        self.hold("rows", seed, sheet.rows(), other.rows);
+        let cells: Vec<_> = sheet.cells().map(|cell| of_ours(&cell)).collect();
+        let others: Vec<_> = other.cells.iter().map(of_theirs).collect();
+        self.hold("cells", seed, cells, others);
+    }
+
+    /// Each string, into a buffer with room to spare and into one a unit short.
+    fn strings(&mut self, seed: u64, stream: &[u8], strings: &[Vec<u16>]) {
+        for (index, units) in strings.iter().enumerate() {
+            let mut buffer = vec![0xABCD; units.len() + 2];
+            let answer = ours(station::fetch(stream, index as u32, &mut buffer));
+            let mut wanted = units.clone();
+            wanted.extend([0xABCD; 2]);
+            self.hold("fetch", seed, (answer, buffer), (Ok(units.len()), wanted));
+        }
+    }
+
+    fn fetch(&mut self, seed: u64, stream: &[u8]) {
+        let question = streams::fetch(seed, stream);
+        let mut buffer = vec![0xABCD; question.units];
+        let mut other = buffer.clone();
+        let one = ours(station::fetch(stream, question.index, &mut buffer));
+        let two = theirs(second_reader::fetch(stream, question.index, &mut other));
+        self.count(&one);
+        self.hold("fetch", seed, (one, buffer), (two, other));
+    }
+
+    fn judge(&mut self, seed: u64) {
+        let tokens = streams::formula(seed);
+        let one = ours(station::judge(&tokens));
+        self.count(&one);
+        self.hold("judge", seed, one, theirs(second_reader::judge(&tokens)));
+    }
+
+    fn correct(&mut self, seed: u64, stream: &[u8]) {
+        let question = streams::correction(seed, stream);
+        let (value, other) = match question.value {
+            streams::NewValue::Number(x) => (
+                station::NewValue::Number(x),
+                second_reader::NewValue::Number(x),
+            ),
+            streams::NewValue::Text(i) => {
+                (station::NewValue::Text(i), second_reader::NewValue::Text(i))
+            }
+            streams::NewValue::Truth(t) => (
+                station::NewValue::Truth(t),
+                second_reader::NewValue::Truth(t),
+            ),
+            streams::NewValue::Error(e) => (
+                station::NewValue::Error(e),
+                second_reader::NewValue::Error(e),
+            ),
+        };
+        let (sheet, row, column) = (question.sheet, question.row, question.column);
+        let mut changed = stream.to_vec();
+        let mut changed_too = stream.to_vec();
+        let one = ours(station::correct(&mut changed, sheet, row, column, value));
+        let two = theirs(second_reader::correct(
+            &mut changed_too,
+            sheet,
+            row,
+            column,
+            other,
+        ));
+        self.count(&one);
+        self.hold("correct", seed, one, two);
+        self.hold("corrected bytes", seed, changed == changed_too, true);
+    }
+
+    fn all(&mut self, seed: u64) {
+        let stream = streams::stream(seed);
+        self.check(seed, &stream);
+        self.list(seed, &stream);
+        self.fetch(seed, &stream);
+        self.judge(seed);
+        for turn in 0..3 {
+            self.correct(3 * seed + turn, &stream);
+        }
+    }
+}
+
+/// A cell in one form: row, column, format, value, and where the value and a formula's tokens stand, which a blank and other cells don't have.
+type Plain = (
+    u16,
+    u16,
+    u16,
+    second_reader::Value,
+    Option<usize>,
+    Option<(usize, usize)>,
+);
+
+fn of_theirs(cell: &second_reader::Cell) -> Plain {
+    plain(
+        cell.row,
+        cell.column,
+        cell.format,
+        cell.value,
+        cell.value_field.start,
+        cell.tokens.start,
+        cell.tokens.end,
+    )
+}
+
+fn of_ours(cell: &station::Cell) -> Plain {
+    plain(
+        cell.row,
+        cell.column,
+        cell.format,
+        value_of(cell.value),
+        cell.field,
+        cell.tokens.start,
+        cell.tokens.end,
+    )
+}
+
+fn plain(
+    row: u16,
+    column: u16,
+    format: u16,
+    value: second_reader::Value,
+    field: usize,
+    start: usize,
+    end: usize,
+) -> Plain {
+    let field = (value != second_reader::Value::Blank).then_some(field);
+    let tokens = matches!(value, second_reader::Value::Formula(_)).then_some((start, end));
+    (row, column, format, value, field, tokens)
+}
+
+fn value_of(value: station::Value) -> second_reader::Value {
+    use second_reader::{FormulaResult, Value};
+    match value {
+        station::Value::Blank => Value::Blank,
+        station::Value::Number(bits) => Value::Number(bits),
+        station::Value::Text(index) => Value::Text(index),
+        station::Value::Truth(truth) => Value::Truth(truth),
+        station::Value::Error(code) => Value::Error(code),
+        station::Value::Formula(result) => Value::Formula(match result {
+            station::FormulaResult::Number(bits) => FormulaResult::Number(bits),
+            station::FormulaResult::Text => FormulaResult::Text,
+            station::FormulaResult::Truth(truth) => FormulaResult::Truth(truth),
+            station::FormulaResult::Error(code) => FormulaResult::Error(code),
+            station::FormulaResult::Empty => FormulaResult::Empty,
+        }),
+    }
+}
+
+fn main() -> ExitCode {
+    let mut numbers = std::env::args().skip(1).map(|word| word.parse::<u64>());
+    let count = numbers.next().unwrap_or(Ok(100_000));
+    let first = numbers.next().unwrap_or(Ok(0));
+    let (Ok(count), Ok(first)) = (count, first) else {
+        eprintln!("usage: compare [COUNT [FIRST]]");
+        return ExitCode::from(2);
+    };
+    let start = Instant::now();
+    let mut comparison = Comparison {
+        differences: 0,
+        counts: [0; 19],
+    };
+    let whole = count >= WHOLE;
+    // at and over the greatest length, where two of three are over it
+    for seed in 0..if whole { 2 * LEAST } else { 3 } {
+        comparison.check(seed, &streams::longest(seed));
+    }
+    for seed in first..first + count {
+        comparison.all(seed);
+    }
+    for (number, met) in comparison.counts.iter().enumerate() {
+        println!(
+            "{} {met}",
+            if number == 0 {
+                "answered".to_string()
+            } else {
+                format!("refused {number}")
+            }
+        );
+    }
+    println!(
+        "{count} seeds from {first}, {} differences, {:.1} s",
+        comparison.differences,
+        start.elapsed().as_secs_f64()
+    );
+    let rare = comparison.counts.iter().any(|&met| met < LEAST);
+    if comparison.differences > 0 || (whole && rare) {
+        return ExitCode::from(1);
+    }
+    ExitCode::SUCCESS
+}

@@ -1,0 +1,96 @@
+//! The C functions as `include/station.h` declares them. Each is defined for every argument.
+
+#[repr(C)]
+pub struct Check {
+    pub number: u8,
+    pub offset: usize,
+    pub sheets: usize,
+    pub strings: u32,
+}
+
+#[repr(C)]
+pub struct Answer {
+    pub number: u8,
+    pub offset: usize,
+}
+
+#[repr(C)]
+pub struct Units {
+    pub number: u8,
+    pub offset: usize,
+    pub units: usize,
+}
+
+#[repr(C)]
+pub struct Sheets {
+    pub number: u8,
+    pub offset: usize,
+    pub place: usize,
+}
+
+#[repr(C)]
+pub struct Sheet {
+    pub ended: bool,
+    pub header: usize,
+    pub size: usize,
+    pub width: usize,
+    pub kind: u8,
+    pub at: usize,
+    pub part: u16,
+    pub level: u8,
+    pub next: usize,
+}
+
+#[repr(C)]
+pub struct Cells {
+    pub number: u8,
+    pub offset: usize,
+    pub at: usize,
+    pub part: u16,
+    pub level: u8,
+}
+
+#[repr(C)]
+pub struct Filled {
+    pub cells: usize,
+    pub ended: bool,
+    pub at: usize,
+    pub part: u16,
+    pub level: u8,
+}
+
+extern "C" {
+    pub fn station_check(stream: *const u8, length: usize) -> Check;
+    pub fn station_judge(tokens: *const u8, length: usize) -> Answer;
+    pub fn station_fetch(
+        stream: *const u8,
+        length: usize,
+        index: u32,
+        units: *mut u16,
+        room: usize,
+    ) -> Units;
+    pub fn station_sheets(stream: *const u8, length: usize) -> Sheets;
+    pub fn station_next_sheet(stream: *const u8, length: usize, place: usize) -> Sheet;
+    pub fn station_rows(stream: *const u8, length: usize, at: usize, part: u16, level: u8) -> u32;
+    pub fn station_cells(stream: *const u8, length: usize, sheet: u32) -> Cells;
+    pub fn station_next_cells(
+        stream: *const u8,
+        length: usize,
+        at: usize,
+        part: u16,
+        level: u8,
+        words: *mut u64,
+        room: usize,
+    ) -> Filled;
+    pub fn station_correct(
+        stream: *mut u8,
+        length: usize,
+        sheet: u32,
+        row: u32,
+        column: u32,
+        kind: u8,
+        number: f64,
+        index: u32,
+        byte: u8,
+    ) -> Answer;
+}

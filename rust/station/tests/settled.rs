@@ -1,0 +1,62 @@
+//! The cases that document 01 settles by example, asked of the compiled library.
+
+use station::{check, judge, Passed, Refusal};
+
+fn refused(number: u8, offset: usize) -> Result<(), Refusal> {
+    Err(Refusal { number, offset })
+}
+
+#[test]
+fn formulas() {
+    assert_eq!(
+        judge(&[0x44, 0x00, 0x00, 0x00, 0xC0, 0x1E, 0x01, 0x00, 0x03]),
+        Ok(())
+    );
+    assert_eq!(judge(&[0x03]), refused(14, 0));
+    assert_eq!(judge(&[0x1E, 0x01, 0x00, 0x1E, 0x01, 0x00]), refused(14, 6));
+    assert_eq!(judge(&[0x1E, 0x01]), refused(13, 0));
+    assert_eq!(judge(&[0x41, 0xDD, 0x00]), Ok(()));
+    assert_eq!(judge(&[0x41, 0xCA, 0x00]), refused(15, 0));
+    assert_eq!(judge(&[0x41, 0xD8, 0x00]), refused(15, 0));
+    assert_eq!(judge(&[0x29, 0x03, 0x00, 0x1E, 0x01, 0x00]), Ok(()));
+    assert_eq!(judge(&[0x29, 0x04, 0x00, 0x1E, 0x01, 0x00]), refused(13, 0));
+}
+
+#[test]
+fn globals_alone() {
+    let mut stream = vec![0x09, 0x08, 0x10, 0x00, 0x00, 0x06, 0x05, 0x00];
+    stream.resize(20, 0);
+    stream.extend([0x0A, 0x00, 0x00, 0x00]);
+    assert_eq!(
+        check(&stream),
+        Ok(Passed {
+            sheets: 0,
+            strings: 0
+        })
+    );
+}
+
+/// The SST of the example, in globals of its own.
+#[test]
+fn a_string_over_a_continuation() {
+    let mut stream = vec![0x09, 0x08, 0x10, 0x00, 0x00, 0x06, 0x05, 0x00];
+    stream.resize(20, 0);
+    stream.extend([
+        0xFC, 0x00, 0x0C, 0x00, 0x01, 0x00, 0x00, 0x00, 0x01, 0x00, 0x00, 0x00, 0x02, 0x00, 0x00,
+        0x41,
+    ]);
+    stream.extend([0x3C, 0x00, 0x03, 0x00, 0x01, 0xA9, 0x03]);
+    stream.extend([0x0A, 0x00, 0x00, 0x00]);
+    let mut units = [7u16; 3];
+    assert_eq!(station::fetch(&stream, 0, &mut units), Ok(2));
+    assert_eq!(units, [0x0041, 0x03A9, 7]);
+    let mut short = [7u16; 1];
+    assert_eq!(
+        station::fetch(&stream, 0, &mut short),
+        Err(Refusal {
+            number: 12,
+            offset: 0
+        })
+    );
+    assert_eq!(short, [7]);
+}
