@@ -14,11 +14,12 @@
 extern "C" {
 #endif
 
-struct station_check { uint8_t number; size_t offset; size_t sheets; uint32_t strings; };
+struct station_check { uint8_t number; size_t offset; size_t sheets; uint32_t strings; size_t sheet; size_t segment; size_t at; size_t end; };
 struct station_answer { uint8_t number; size_t offset; };
 struct station_units { uint8_t number; size_t offset; size_t units; };
 
-/* check: how many sheets and shared strings, or the first fault */
+/* check: how many sheets and shared strings, or the first fault; and the places from which both are read one after the other
+ * without another check: sheet for station_next_sheet; segment, at and end for station_next_string */
 struct station_check station_check(const uint8_t *stream, size_t length);
 
 /* judge: a formula's token bytes */
@@ -27,12 +28,16 @@ struct station_answer station_judge(const uint8_t *tokens, size_t length);
 /* fetch: the units of a shared string at the front of the buffer; later units stay */
 struct station_units station_fetch(const uint8_t *stream, size_t length, uint32_t index, uint16_t *units, size_t room);
 
-/* list: the sheets one after the other, from the place that station_sheets gives; no further check is made.
+/* the same for the next string from a place on, and the place after it. number is 12 where the buffer has fewer units than the
+ * string (65,535 are enough for any); ended says that no whole string follows. The place then stays. */
+struct station_string { bool ended; uint8_t number; size_t units; size_t segment; size_t at; size_t end; };
+struct station_string station_next_string(const uint8_t *stream, size_t length, size_t segment, size_t at, size_t end,
+                                          uint16_t *units, size_t room);
+
+/* list: the sheets one after the other, from the place that station_check gives.
  * The name lies 12 bytes after header, size bytes long, width bytes a character; kind is 0 worksheet, 1 macro, 2 chart;
  * at, part and level are the place of the sheet's first cell. */
-struct station_sheets { uint8_t number; size_t offset; size_t place; };
 struct station_sheet { bool ended; size_t header; size_t size; size_t width; uint8_t kind; size_t at; uint16_t part; uint8_t level; size_t next; };
-struct station_sheets station_sheets(const uint8_t *stream, size_t length);
 struct station_sheet station_next_sheet(const uint8_t *stream, size_t length, size_t place);
 
 /* the row count of the cells from a place on, up to 65,536 */

@@ -67,11 +67,11 @@ module _ (s : List ℕ) (u : ℕ) (g : Globals) where
       (by-globals (globalsOf s u)) h
 
 -- ---- its strings
-strings-none : (s : List ℕ) (p : ℕ) → p ≡ 0 → stringsAt s p ≡ []
+pub strings-none : (s : List ℕ) (p : ℕ) → p ≡ 0 → stringsAt s p ≡ []
 unfolding stringsAt
 strings-none s p h = sym (pick-eq _ _ _ _ _ h refl)
 
-strings-some : (s : List ℕ) (p : ℕ) → 0 < p → stringsAt s p ≡ stringsOf s p (p + 4 + u16At s (p + 2))
+pub strings-some : (s : List ℕ) (p : ℕ) → 0 < p → stringsAt s p ≡ stringsOf s p (p + 4 + u16At s (p + 2))
 unfolding stringsAt
 strings-some s p h = sym (pick-ne _ _ _ p 0 (λ i. omega arith) refl)
 

@@ -4,6 +4,8 @@ use mathlib.Core.Path.{_≡_, refl, sym, ap, _∙_, subst}
 use mathlib.Core.List.{List, [], _∷_}
 use native.Mathlib.Omega.{arith}
 use lib.ListN.{length, take, drop}
+use lib.Dec.{eqb}
+use Rattle.walk.specs.Choice.{pick}
 use Rattle.walk.proofs.Choice.{pick-eq, pick-ne, pick-lt, pick-nlt, pick-le, pick-nle, refl′}
 use Rattle.walk.specs.Walk.{Next, more, stop}
 use Rattle.walk.proofs.Walk.{run-more, run-stop, run-keeps}
@@ -16,7 +18,7 @@ use Rattle.record.proofs.Laws.{Whole, whole}
 use Rattle.cell.specs.declared.Cell.{Cell}
 use Rattle.cell.specs.declared.Found.{Found}
 use Rattle.cell.specs.declared.Found.the-variants.{There, Absent}
-use Rattle.cell.specs.Cells.{shapeOf, foundOf, tokensOf}
+use Rattle.cell.specs.Cells.{shapeOf, fieldOf, countOf, cellOf, foundOf, tokensOf}
 use Rattle.sheetlist.specs.Agreement.{Sheet}
 use Rattle.globals.specs.declared.Bound.{Bound}
 use Rattle.globals.specs.declared.Bound.the-variants as bound
@@ -29,7 +31,7 @@ use Rattle.workbook.specs.Check.{checkedOf, onChecked}
 use Rattle.reading.specs.declared.Place.{Place}
 use Rattle.reading.specs.Cells.{placeAt, nextPart, otherItem, onFound, recordItem, onHeader, cellItem, remaining, listedFrom}
 use Rattle.reading.specs.Reading.{onName, nameAt, widthAt, typeAt, startBy, startOf, listedOf, rowsOf}
-use Rattle.reading.proofs.Laws.{count-small, found-there, item-near, listed-step}
+use Rattle.reading.proofs.Laws.{count-small, found-there, cell-here, item-near, listed-step}
 use Rattle.listing.specs.declared.Description.{Description}
 use Rattle.listing.specs.declared.Description.the-variants as description
 use Rattle.listing.specs.declared.SheetList.the-variants as sheetList
@@ -108,6 +110,12 @@ module _ (s : List ℕ) where
       next-end h = sym (inv ∙ run-stop go listed.End (remaining s) falls (by-step _ h))
 
 pub ruleset next-laws = (less-skip, next-skip, next-cell, next-end)
+
+-- from a cell of a record on, that cell is the next one
+module _ (s : List ℕ) (at t z e : ℕ) (whole-record : headerAt s at ≡ Record t z e) (k : ℕ) (l : k < countOf (shapeOf t) s at z) where
+  pub next-part : nextOf s (record { at = at; part = k; level = 0 }) ≡ listed.Cell (cellOf s (fieldOf (shapeOf t)) at k) (pick (eqb (countOf (shapeOf t) s at z - (k + 1)) 0) (placeAt e 0) (record { at = at; part = k + 1; level = 0 }))
+  unfolding nextOf nextPart
+  next-part = run-stop (go s) listed.End (remaining s) (falls s) (ap onItem (cell-here s at t z e whole-record k l))
 
 -- ---- the list and the walk that gives its cells one by one
 abbrev pub onListed : List ℕ → Listed → List Cell

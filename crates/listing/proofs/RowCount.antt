@@ -23,7 +23,7 @@ use Rattle.cell.specs.Cells.{shapeOf, rowAt, multiple, lengthAt, countOf, cellF
 use Rattle.reading.specs.declared.Place.{Place}
 use Rattle.reading.specs.Cells.{placeAt, nextPart, otherItem, onFound, recordItem, onHeader, cellItem, remaining, listedFrom}
 use Rattle.reading.specs.Reading.{rowsOf}
-use Rattle.reading.proofs.Laws.{found-is, found-absent, item-near, listed-step}
+use Rattle.reading.proofs.Laws.{found-absent, cell-here, item-near, listed-step}
 use Rattle.listing.specs.declared.Step.{Step}
 use Rattle.listing.specs.declared.RowStep.{RowStep}
 use Rattle.listing.specs.declared.RowStep.the-variants as rowStep
@@ -45,13 +45,8 @@ module _ (s : List ℕ) (at t z e : ℕ) (head : headerAt s at ≡ Record t z e)
   after k = pick (eqb (count - (k + 1)) 0) (placeAt e 0) (nextPart (partAt k))
 
   rows-here : (k : ℕ) → k < count → rowsOf (listedFrom s (partAt k)) ≡ max (rowAt s at + 1) (rowsOf (listedFrom s (after k)))
-  unfolding rowsOf cellItem recordItem cellOf cellFrom
-  rows-here k l =
-      ap rowsOf
-      (listed-step s (partAt k)
-      ∙ ap (λ (x : Header). onto (onHeader s (partAt k) x) (λ p. listedFrom s p)) head
-      ∙ ap (λ (x : Item Place Cell). onto x (λ p. listedFrom s p)) (sym (pick-eq (onFound (partAt k) t e (foundOf s (shapeOf t) at z k)) _ _ 0 0 refl refl))
-      ∙ ap (λ (x : Found). onto (onFound (partAt k) t e x) (λ p. listedFrom s p)) (sym (found-is s (shapeOf t) at z k l)))
+  unfolding rowsOf cellOf cellFrom
+  rows-here k l = ap rowsOf (listed-step s (partAt k) ∙ ap (λ (x : Item Place Cell). onto x (λ p. listedFrom s p)) (cell-here s at t z e head k l))
 
   rows-parts : (j k : ℕ) → k + suc j ≡ count → rowsOf (listedFrom s (partAt k)) ≡ max (rowAt s at + 1) (rowsOf (listedFrom s (placeAt e 0)))
   unfolding nextPart

@@ -130,7 +130,7 @@ module _ (s : List ℕ) (at t z e : ℕ) (whole-record : headerAt s at ≡ Recor
   by-record k = ap (onHeader s (partAt k)) whole-record ∙ sym (pick-eq _ _ _ 0 0 refl refl)
 
   module _ (k : ℕ) (l : k < countOf shape s at z) where
-    cell-here : cellItem s (partAt k) ≡ gives (cellOf s field at k) (pick (eqb (countOf shape s at z - (k + 1)) 0) (placeAt e 0) (nextPart (partAt k)))
+    pub cell-here : cellItem s (partAt k) ≡ gives (cellOf s field at k) (pick (eqb (countOf shape s at z - (k + 1)) 0) (placeAt e 0) (nextPart (partAt k)))
     cell-here = by-record k ∙ ap (onFound (partAt k) t e) (sym (found-is s shape at z k l))
 
     part-last : k + 1 ≡ countOf shape s at z → listedFrom s (partAt k) ≡ cellOf s field at k ∷ listedFrom s (placeAt e 0)

@@ -7,13 +7,18 @@ use mathlib.Core.Bool.{true, false}
 use lib.ListN.{length, set, length-set}
 use lib.Seq.{sets, length-sets}
 use Rattle.formula.specs.declared.Judgement.{Judgement}
-use Rattle.workbook.specs.declared.Answer as workbook
+use Rattle.workbook.specs.declared.Checked.{Checked}
+use Rattle.workbook.specs.declared.Checked.the-variants as checked
+use Rattle.globals.specs.declared.Globals.{Globals}
+use Rattle.globals.specs.Sheets.{sheetsOf}
+use Rattle.segments.specs.declared.Cursor.{Cursor}
+use Rattle.fetch.specs.declared.NextString.{NextString}
+use Rattle.fetch.specs.Strings.{firstOf}
 use Rattle.change.specs.declared.Answer as change
 use Rattle.change.specs.declared.NewValue.{NewValue}
 use Rattle.correction.specs.Correction.{correctionOf, answerOf, streamAfter}
 use Rattle.strings.specs.declared.Fetched.{Fetched}
 use Rattle.listing.specs.declared.Start.{Start}
-use Rattle.listing.specs.declared.SheetList.{SheetList}
 use Rattle.listing.specs.declared.NextSheet.{NextSheet}
 use Rattle.listing.specs.declared.NextSheet.the-variants as nextSheet
 use Rattle.reading.specs.declared.Place.{Place}
@@ -21,7 +26,7 @@ use Rattle.reading.specs.Reading.{nameAt}
 use Rattle.station_c.specs.declared.Check.{Check}
 use Rattle.station_c.specs.declared.Answer.{Answer}
 use Rattle.station_c.specs.declared.Units.{Units}
-use Rattle.station_c.specs.declared.Sheets.{Sheets}
+use Rattle.station_c.specs.declared.SharedString.{SharedString}
 use Rattle.station_c.specs.declared.Sheet.{Sheet}
 use Rattle.station_c.specs.declared.Cells.{Cells}
 use Rattle.value.specs.declared.FormulaResult.{FormulaResult}
@@ -32,14 +37,19 @@ use Rattle.listing.specs.declared.Listed.the-variants as listed
 use Rattle.listing.specs.Listing.{nextOf}
 use Rattle.station_c.specs.Cells.{resultWord, valueKind, valueWord, headWord, wordsOf, Batch, onListed, filled, filledFrom, filledSeen}
 use Rattle.station_c.specs.declared.Filled.{Filled}
-use Rattle.station_c.specs.Answers.{checkSeen, judgeSeen, correctSeen, fetchSeen, sheetsSeen, sheetSeen, cellsSeen}
+use Rattle.station_c.specs.Answers.{checkSeen, judgeSeen, correctSeen, fetchSeen, textSeen, sheetSeen, cellsSeen}
 
 -- r is what the call gave, a what its promise says, x how the code saw it
 seen : {A B : Type 0} (f : A → B) {a r x : A} {y : B} → r ≡ a → r ≡ x → y ≡ f x → y ≡ f a
 seen f i j h = h ∙ ap f (sym j ∙ i)
 
-pub check-seen : {a r x : workbook.Answer} {y : Check} → r ≡ a → r ≡ x → y ≡ checkSeen x → y ≡ checkSeen a
-check-seen = seen checkSeen
+pub check-wrong : (s : List ℕ) {a r : Checked} {n o : ℕ} {y : Check} → r ≡ a → r ≡ checked.Wrong n o → y ≡ checkSeen s (checked.Wrong n o) → y ≡ checkSeen s a
+check-wrong s = seen (checkSeen s)
+
+-- c is the first place and n the number of sheets, as the code has them
+pub check-right : (s : List ℕ) {a r : Checked} {g : Globals} {c : Cursor} {n : ℕ} → r ≡ a → r ≡ checked.Right g → c ≡ firstOf s (g .table) → n ≡ length (sheetsOf s)
+    → _≡_ {A = Check} (record { number = 0; offset = 0; sheets = n; strings = g .unique; sheet = 20; segment = c .seg; at = c .at; end = c .end }) (checkSeen s a)
+check-right s {a} {r} {g} {c} {n} i j k l = seen (checkSeen s) i j (λ m. record { number = 0; offset = 0; sheets = l m; strings = g .unique; sheet = 20; segment = k m .seg; at = k m .at; end = k m .end })
 
 pub judge-seen : {a r x : Judgement} {y : Answer} → r ≡ a → r ≡ x → y ≡ judgeSeen x → y ≡ judgeSeen a
 judge-seen = seen judgeSeen
@@ -55,8 +65,8 @@ module _ (s : List ℕ) (n row column : ℕ) (v : NewValue) {w : NewValue} (made
 pub fetch-seen : {a r x : Fetched} {y : Units} → r ≡ a → r ≡ x → y ≡ fetchSeen x → y ≡ fetchSeen a
 fetch-seen = seen fetchSeen
 
-pub sheets-seen : {a r x : SheetList} {y : Sheets} → r ≡ a → r ≡ x → y ≡ sheetsSeen x → y ≡ sheetsSeen a
-sheets-seen = seen sheetsSeen
+pub text-seen : (c : Cursor) {a r x : NextString} {y : SharedString} → r ≡ a → r ≡ x → y ≡ textSeen c x → y ≡ textSeen c a
+text-seen c = seen (textSeen c)
 
 pub cells-seen : {a r x : Start} {y : Cells} → r ≡ a → r ≡ x → y ≡ cellsSeen x → y ≡ cellsSeen a
 cells-seen = seen cellsSeen

@@ -8,31 +8,44 @@ use lib.ListN.{length}
 use Rattle.walk.specs.Choice.{pick}
 use Rattle.formula.specs.declared.Judgement.{Judgement}
 use Rattle.formula.specs.declared.Judgement.the-variants as judgement
-use Rattle.workbook.specs.declared.Answer as workbook
-use Rattle.workbook.specs.declared.Answer.the-variants as checked
+use Rattle.workbook.specs.declared.Checked.{Checked}
+use Rattle.workbook.specs.declared.Checked.the-variants as checked
 use Rattle.change.specs.declared.NewValue.{NewValue}
 use Rattle.change.specs.declared.NewValue.the-variants.{Number, Text, Truth, Error}
 use Rattle.change.specs.declared.Answer as change
 use Rattle.change.specs.declared.Answer.the-variants as changed
+use Rattle.segments.specs.declared.Cursor.{Cursor}
+use Rattle.globals.specs.Sheets.{sheetsOf}
 use Rattle.strings.specs.declared.Fetched.{Fetched}
 use Rattle.strings.specs.declared.Fetched.the-variants as fetched
+use Rattle.fetch.specs.declared.NextString.{NextString}
+use Rattle.fetch.specs.declared.NextString.the-variants as nextString
+use Rattle.fetch.specs.Strings.{firstOf}
 use Rattle.reading.specs.Reading.{nameAt}
 use Rattle.listing.specs.declared.Start.{Start}
 use Rattle.listing.specs.declared.Start.the-variants as start
-use Rattle.listing.specs.declared.SheetList.{SheetList}
-use Rattle.listing.specs.declared.SheetList.the-variants as sheetList
 use Rattle.listing.specs.declared.NextSheet.{NextSheet}
 use Rattle.listing.specs.declared.NextSheet.the-variants as nextSheet
 use Rattle.station_c.specs.declared.Check.{Check}
 use Rattle.station_c.specs.declared.Answer.{Answer}
 use Rattle.station_c.specs.declared.Units.{Units}
-use Rattle.station_c.specs.declared.Sheets.{Sheets}
+use Rattle.station_c.specs.declared.SharedString.{SharedString}
 use Rattle.station_c.specs.declared.Sheet.{Sheet}
 use Rattle.station_c.specs.declared.Cells.{Cells}
 
-abbrev pub checkSeen : workbook.Answer → Check
-checkSeen (checked.Passed sheets strings) = record { number = 0; offset = 0; sheets = sheets; strings = strings }
-checkSeen (checked.Refused n o) = record { number = n; offset = o; sheets = 0; strings = 0 }
+-- how many sheets and strings; the sheet list starts after the globals' BOF, the strings in the table
+abbrev pub checkSeen : List ℕ → Checked → Check
+checkSeen s (checked.Right g) = record {
+  number = 0;
+  offset = 0;
+  sheets = length (sheetsOf s);
+  strings = g .unique;
+  sheet = 20;
+  segment = firstOf s (g .table) .seg;
+  at = firstOf s (g .table) .at;
+  end = firstOf s (g .table) .end;
+}
+checkSeen s (checked.Wrong n o) = record { number = n; offset = o; sheets = 0; strings = 0; sheet = 0; segment = 0; at = 0; end = 0 }
 
 abbrev pub judgeSeen : Judgement → Answer
 judgeSeen judgement.Accepted = record { number = 0; offset = 0 }
@@ -46,9 +59,11 @@ abbrev pub fetchSeen : Fetched → Units
 fetchSeen (fetched.Units n) = record { number = 0; offset = 0; units = n }
 fetchSeen (fetched.Refused n o) = record { number = n; offset = o; units = 0 }
 
-abbrev pub sheetsSeen : SheetList → Sheets
-sheetsSeen (sheetList.At p) = record { number = 0; offset = 0; place = p }
-sheetsSeen (sheetList.Refused n o) = record { number = n; offset = o; place = 0 }
+-- the next string from a place on: the place stays where there is none, or no room for it
+abbrev pub textSeen : Cursor → NextString → SharedString
+textSeen c (nextString.Units n d) = record { ended = false; number = 0; units = n; segment = d .seg; at = d .at; end = d .end }
+textSeen c nextString.Short = record { ended = false; number = 12; units = 0; segment = c .seg; at = c .at; end = c .end }
+textSeen c nextString.End = record { ended = true; number = 0; units = 0; segment = c .seg; at = c .at; end = c .end }
 
 abbrev pub cellsSeen : Start → Cells
 cellsSeen (start.At v) = record { number = 0; offset = 0; at = v .at; part = v .part; level = v .level }

@@ -226,6 +226,9 @@ listed s (suc n) c = at-place (λ e. listed s n e) (nextPlace s c) refl
     at-place ih (got u d) h = at-string ih d h (stringAt s d) refl
     at-place ih (refused a b) h = tt
 
+pub strings-count : (s : List ℕ) (n : ℕ) (c : Cursor) (l : List Cursor) (d : Cursor) → strings s n c ≡ got l d → length l ≡ n
+strings-count s n c l d h = let k : Listed s n c (got l d) = subst (Listed s n c) h (listed s n c) in k .0
+
 -- ---- the check of a table: m is where its strings end
 module _ (s : List ℕ) (p e : ℕ) where
   pub table-short : e - (p + 4) < 8 → Strings.Refused 8 p ≡ answerOf (tableOf s p e)

@@ -49,7 +49,7 @@ pub fn check_with(s: &[u8], unique: u32) -> Checked
 }
 
 // How many sheets the BOUNDSHEETs declare.
-fn sheet_count(s: &[u8]) -> usize
+pub fn sheet_count(s: &[u8]) -> usize
     requires { ⌜ length (now s) ≤ 16777216 ⌝ }
     ensures { λ r. ⌜ r ≡ length (sheetsOf (now (s .entry))) ⌝ }
 {

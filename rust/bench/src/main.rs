@@ -1,6 +1,10 @@
 //! bench [--all]: the time to check a stream of 16,000,000 bytes, and to check it and list its first sheet: the proved library against the second
-//! reader, in turn, the best of many. The stream is of mixed cells and strings; with --all there is one of each kind, hostile ones too.
+//! reader, in turn, the best of many. The stream is of mixed cells and strings; with --all there is one of each kind, hostile ones too. Where the
+//! machine counts instructions, those of one check and listing are told as well.
 
+mod instructions;
+
+use instructions::Work;
 use std::process::ExitCode;
 use std::time::Instant;
 
@@ -23,30 +27,64 @@ impl Best {
     }
 }
 
-/// What a listing comes to: each cell counts, so that neither side can leave one out.
-fn with(sum: u64, row: u16, column: u16, bits: u64) -> u64 {
-    sum.wrapping_mul(31)
-        .wrapping_add(u64::from(row) << 16 | u64::from(column))
-        .wrapping_add(bits)
+/// What a listing comes to: every field of each cell counts, so that neither side can leave one out. `tokens` is how many bytes a formula has.
+fn with(
+    sum: u64,
+    row: u16,
+    column: u16,
+    format: u16,
+    bits: u64,
+    field: usize,
+    tokens: usize,
+) -> u64 {
+    let address = u64::from(format) << 32 | u64::from(column) << 16 | u64::from(row);
+    sum.rotate_left(5) ^ (address ^ bits ^ (field ^ tokens << 32) as u64)
 }
 
 /// The first sheet, where the made streams have their cells; 0 where there is none.
 fn list_ours(stream: &[u8]) -> u64 {
     station::cells(stream, 0).map_or(0, |cells| {
-        cells.fold(0, |sum, cell| match cell.value {
-            station::Value::Number(bits) => with(sum, cell.row, cell.column, bits),
-            _ => with(sum, cell.row, cell.column, 0),
+        cells.fold(0, |sum, cell| {
+            let field = if cell.is_blank() { 0 } else { cell.field() };
+            with(
+                sum,
+                cell.row(),
+                cell.column(),
+                cell.format(),
+                cell.bits(),
+                field,
+                cell.tokens().len(),
+            )
         })
     })
 }
 
 fn list_theirs(stream: &[u8]) -> u64 {
+    use second_reader::{FormulaResult, Value};
     let mut sum = 0;
     let listed = second_reader::list_cells(stream, 0, |cell| {
-        sum = match cell.value {
-            second_reader::Value::Number(bits) => with(sum, cell.row, cell.column, bits),
-            _ => with(sum, cell.row, cell.column, 0),
+        let (bits, field) = match cell.value {
+            Value::Blank => (0, 0),
+            Value::Number(bits) => (bits, cell.value_field.start),
+            Value::Text(index) => (index.into(), cell.value_field.start),
+            Value::Truth(byte) | Value::Error(byte) => (byte.into(), cell.value_field.start),
+            Value::Formula(FormulaResult::Number(bits)) => (bits, cell.value_field.start),
+            Value::Formula(FormulaResult::Truth(byte) | FormulaResult::Error(byte)) => {
+                (byte.into(), cell.value_field.start)
+            }
+            Value::Formula(FormulaResult::Text | FormulaResult::Empty) => {
+                (0, cell.value_field.start)
+            }
         };
+        sum = with(
+            sum,
+            cell.row,
+            cell.column,
+            cell.format,
+            bits,
+            field,
+            cell.tokens.len(),
+        );
     });
     listed.map_or(0, |()| sum)
 }
@@ -69,16 +107,41 @@ fn run(kind: streams::Big) -> bool {
         list / list_too,
         if same { "" } else { ": THE ANSWERS DIFFER" },
     );
+    if let Some([ours, theirs]) = instructions::of_listings(&stream) {
+        println!(
+            "{kind:?}: instructions to list {ours} against {theirs}, ratio {:.2}",
+            ours as f64 / theirs as f64
+        );
+    }
     same
+}
+
+/// One piece of work on a stream in a file, for a counter of instructions around it.
+fn work(name: &str, file: &str) -> ExitCode {
+    let (Some(work), Ok(stream)) = (Work::named(name), std::fs::read(file)) else {
+        return ExitCode::from(2);
+    };
+    let sum = match work {
+        Work::Nothing => 0,
+        Work::Ours => list_ours(&stream),
+        Work::Theirs => list_theirs(&stream),
+    };
+    println!("{sum}");
+    ExitCode::SUCCESS
 }
 
 fn main() -> ExitCode {
     let words: Vec<String> = std::env::args().skip(1).collect();
     let same = match words.iter().map(String::as_str).collect::<Vec<_>>()[..] {
         [] => run(streams::Big::Mixed),
-        ["--all"] => streams::Big::ALL
-            .into_iter()
-            .fold(true, |same, kind| run(kind) && same),
+        ["--all"] => {
+            let mut same = true;
+            for kind in streams::Big::ALL {
+                same &= run(kind);
+            }
+            same
+        }
+        [instructions::WORK, name, file] => return work(name, file),
         _ => {
             eprintln!("usage: bench [--all]");
             return ExitCode::from(2);

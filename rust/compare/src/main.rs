@@ -56,17 +56,18 @@ impl Comparison {
 
     fn list(&mut self, seed: u64, stream: &[u8]) {
         let reading = theirs(second_reader::read(stream));
-        let sheets = ours(station::sheets(stream));
-        match (sheets, reading) {
-            (Ok(sheets), Ok(reading)) => {
-                let all: Vec<_> = sheets.collect();
+        match (ours(station::check(stream)), reading) {
+            (Ok(workbook), Ok(reading)) => {
+                let all: Vec<_> = workbook.sheets().collect();
                 self.hold("sheets", seed, all.len(), reading.sheets.len());
                 for (sheet, other) in all.iter().zip(&reading.sheets) {
                     self.sheet(seed, stream, sheet, other);
                 }
+                let strings: Vec<_> = workbook.strings().collect();
+                self.hold("strings", seed, strings, reading.strings.clone());
                 self.strings(seed, stream, &reading.strings);
             }
-            (sheets, reading) => self.hold("list", seed, sheets.err(), reading.err()),
+            (workbook, reading) => self.hold("list", seed, workbook.err(), reading.err()),
         }
         let number = streams::sheet(seed, stream);
         let mut other = Vec::new();
@@ -88,7 +89,7 @@ impl Comparison {
     ) {
         self.hold("name", seed, sheet.name, &stream[other.name.clone()]);
         self.hold("width", seed, sheet.width == 2, other.wide);
-        self.hold("type", seed, sheet.kind, other.sheet_type as u8);
+        self.hold("type", seed, sheet.kind as u8, other.sheet_type as u8);
         self.hold("rows", seed, sheet.rows(), other.rows);
         let cells: Vec<_> = sheet.cells().map(|cell| of_ours(&cell)).collect();
         let others: Vec<_> = other.cells.iter().map(of_theirs).collect();
@@ -194,13 +195,13 @@ fn of_theirs(cell: &second_reader::Cell) -> Plain {
 
 fn of_ours(cell: &station::Cell) -> Plain {
     plain(
-        cell.row,
-        cell.column,
-        cell.format,
-        value_of(cell.value),
-        cell.field,
-        cell.tokens.start,
-        cell.tokens.end,
+        cell.row(),
+        cell.column(),
+        cell.format(),
+        value_of(cell.value()),
+        cell.field(),
+        cell.tokens().start,
+        cell.tokens().end,
     )
 }
 

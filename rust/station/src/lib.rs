@@ -27,21 +27,53 @@ fn settled(number: u8, offset: usize) -> Result<(), Refusal> {
     }
 }
 
-/// How many sheets and shared strings a stream has that passes.
-#[derive(Clone, Copy, Debug, PartialEq, Eq)]
-pub struct Passed {
+/// A stream that has passed the check: from here on it is read without another.
+#[derive(Clone, Copy, Debug)]
+pub struct Workbook<'a> {
+    stream: &'a [u8],
+    /// How many sheets it has.
     pub sheets: usize,
+    /// How many shared strings it has.
     pub strings: u32,
+    first_sheet: usize,
+    first_string: StringPlace,
 }
 
-pub fn check(stream: &[u8]) -> Result<Passed, Refusal> {
+pub fn check(stream: &[u8]) -> Result<Workbook<'_>, Refusal> {
     // SAFETY: the slice is valid for its length.
     let answer = unsafe { raw::station_check(stream.as_ptr(), stream.len()) };
     settled(answer.number, answer.offset)?;
-    Ok(Passed {
+    Ok(Workbook {
+        stream,
         sheets: answer.sheets,
         strings: answer.strings,
+        first_sheet: answer.sheet,
+        first_string: StringPlace {
+            segment: answer.segment,
+            at: answer.at,
+            end: answer.end,
+        },
     })
+}
+
+impl<'a> Workbook<'a> {
+    /// Its sheets, in BOUNDSHEET order.
+    pub fn sheets(&self) -> Sheets<'a> {
+        Sheets {
+            stream: self.stream,
+            place: self.first_sheet,
+        }
+    }
+
+    /// The units of each shared string, in order.
+    pub fn strings(&self) -> Strings<'a> {
+        Strings {
+            stream: self.stream,
+            place: self.first_string,
+            left: self.strings,
+            buffer: vec![0; LONGEST_STRING],
+        }
+    }
 }
 
 /// Judges a formula's token bytes.
@@ -67,6 +99,66 @@ pub fn fetch(stream: &[u8], index: u32, buffer: &mut [u16]) -> Result<usize, Ref
     Ok(answer.units)
 }
 
+/// A string's length is 16 bits.
+const LONGEST_STRING: usize = 65_535;
+
+/// A place in the string table.
+#[derive(Clone, Copy, Debug)]
+struct StringPlace {
+    segment: usize,
+    at: usize,
+    end: usize,
+}
+
+/// The units of a stream's shared strings, in order.
+pub struct Strings<'a> {
+    stream: &'a [u8],
+    place: StringPlace,
+    left: u32,
+    buffer: Vec<u16>,
+}
+
+impl Strings<'_> {
+    /// The next string's units, in a buffer that the one after it uses anew.
+    pub fn next_units(&mut self) -> Option<&[u16]> {
+        if self.left == 0 {
+            return None;
+        }
+        self.left -= 1;
+        let StringPlace { segment, at, end } = self.place;
+        // SAFETY: both slices are valid for their lengths, and the buffer is lent to this call alone.
+        let string = unsafe {
+            raw::station_next_string(
+                self.stream.as_ptr(),
+                self.stream.len(),
+                segment,
+                at,
+                end,
+                self.buffer.as_mut_ptr(),
+                self.buffer.len(),
+            )
+        };
+        assert!(
+            !string.ended && string.number == 0,
+            "a stream that passes has as many whole strings as it says"
+        );
+        self.place = StringPlace {
+            segment: string.segment,
+            at: string.at,
+            end: string.end,
+        };
+        Some(&self.buffer[..string.units])
+    }
+}
+
+impl Iterator for Strings<'_> {
+    type Item = Vec<u16>;
+
+    fn next(&mut self) -> Option<Vec<u16>> {
+        self.next_units().map(<[u16]>::to_vec)
+    }
+}
+
 /// A place in a listing.
 #[derive(Clone, Copy, Debug)]
 struct Place {
@@ -83,12 +175,39 @@ pub struct Sheet<'a> {
     pub name: &'a [u8],
     /// Bytes a character of the name: 1 or 2.
     pub width: usize,
-    /// 0 worksheet, 1 macro sheet, 2 chart.
-    pub kind: u8,
+    pub kind: SheetKind,
     first: Place,
 }
 
+#[derive(Clone, Copy, Debug, PartialEq, Eq)]
+pub enum SheetKind {
+    Worksheet,
+    Macro,
+    Chart,
+}
+
+impl SheetKind {
+    fn from_byte(kind: u8) -> Self {
+        match kind {
+            0 => SheetKind::Worksheet,
+            1 => SheetKind::Macro,
+            _ => SheetKind::Chart,
+        }
+    }
+}
+
 impl<'a> Sheet<'a> {
+    /// The characters of the name.
+    pub fn name_units(&self) -> impl Iterator<Item = u16> + 'a {
+        let unit = |bytes: &[u8]| {
+            bytes
+                .iter()
+                .rev()
+                .fold(0, |unit, &byte| unit << 8 | u16::from(byte))
+        };
+        self.name.chunks(self.width.max(1)).map(unit)
+    }
+
     /// The highest listed row plus one, or 0.
     pub fn rows(&self) -> u32 {
         let Place { at, part, level } = self.first;
@@ -107,17 +226,6 @@ pub struct Sheets<'a> {
     place: usize,
 }
 
-/// Checks the stream once, for all its sheets.
-pub fn sheets(stream: &[u8]) -> Result<Sheets<'_>, Refusal> {
-    // SAFETY: the slice is valid for its length.
-    let answer = unsafe { raw::station_sheets(stream.as_ptr(), stream.len()) };
-    settled(answer.number, answer.offset)?;
-    Ok(Sheets {
-        stream,
-        place: answer.place,
-    })
-}
-
 impl<'a> Iterator for Sheets<'a> {
     type Item = Sheet<'a>;
 
@@ -134,7 +242,7 @@ impl<'a> Iterator for Sheets<'a> {
             stream,
             name: stream.get(start..start + sheet.size).unwrap_or(&[]),
             width: sheet.width,
-            kind: sheet.kind,
+            kind: SheetKind::from_byte(sheet.kind),
             first: Place {
                 at: sheet.at,
                 part: sheet.part,
@@ -165,47 +273,71 @@ pub enum Value {
     Formula(FormulaResult),
 }
 
-impl Value {
-    fn from_words(kind: u8, word: u64) -> Self {
-        match kind {
-            1 => Value::Number(word),
-            2 => Value::Text(word as u32),
-            3 => Value::Truth(word as u8),
-            4 => Value::Error(word as u8),
-            5 => Value::Formula(FormulaResult::Number(word)),
+/// A cell, in the four words that the library gives for it.
+#[derive(Clone, Copy, PartialEq, Eq)]
+pub struct Cell([u64; 4]);
+
+impl Cell {
+    pub fn row(&self) -> u16 {
+        self.0[0] as u16
+    }
+
+    pub fn column(&self) -> u16 {
+        (self.0[0] >> 16) as u16
+    }
+
+    /// The index of its format.
+    pub fn format(&self) -> u16 {
+        (self.0[0] >> 32) as u16
+    }
+
+    pub fn is_blank(&self) -> bool {
+        self.0[0] >> 48 == 0
+    }
+
+    /// What its value holds, whatever its kind: a number's 64 bits, a text's index, a truth, an error code; else 0.
+    pub fn bits(&self) -> u64 {
+        self.0[1]
+    }
+
+    pub fn value(&self) -> Value {
+        let bits = self.bits();
+        match self.0[0] >> 48 {
+            0 => Value::Blank,
+            1 => Value::Number(bits),
+            2 => Value::Text(bits as u32),
+            3 => Value::Truth(bits as u8),
+            4 => Value::Error(bits as u8),
+            5 => Value::Formula(FormulaResult::Number(bits)),
             6 => Value::Formula(FormulaResult::Text),
-            7 => Value::Formula(FormulaResult::Truth(word as u8)),
-            8 => Value::Formula(FormulaResult::Error(word as u8)),
-            9 => Value::Formula(FormulaResult::Empty),
-            _ => Value::Blank,
+            7 => Value::Formula(FormulaResult::Truth(bits as u8)),
+            8 => Value::Formula(FormulaResult::Error(bits as u8)),
+            _ => Value::Formula(FormulaResult::Empty),
         }
+    }
+
+    /// Where the value field starts; of a blank, its format.
+    pub fn field(&self) -> usize {
+        self.0[2] as usize
+    }
+
+    /// Where a formula's tokens stand; empty for other cells.
+    pub fn tokens(&self) -> Range<usize> {
+        let start = self.field() + 16;
+        start..start + self.0[3] as usize
     }
 }
 
-#[derive(Clone, Debug, PartialEq, Eq)]
-pub struct Cell {
-    pub row: u16,
-    pub column: u16,
-    pub format: u16,
-    pub value: Value,
-    /// Where the value field starts.
-    pub field: usize,
-    /// Where a formula's tokens stand; empty for other cells.
-    pub tokens: Range<usize>,
-}
-
-impl Cell {
-    fn from_words(words: &[u64]) -> Self {
-        let field = words[2] as usize;
-        let tokens = field + 16;
-        Cell {
-            row: words[0] as u16,
-            column: (words[0] >> 16) as u16,
-            format: (words[0] >> 32) as u16,
-            value: Value::from_words((words[0] >> 48) as u8, words[1]),
-            field,
-            tokens: tokens..tokens + words[3] as usize,
-        }
+impl fmt::Debug for Cell {
+    fn fmt(&self, f: &mut fmt::Formatter<'_>) -> fmt::Result {
+        f.debug_struct("Cell")
+            .field("row", &self.row())
+            .field("column", &self.column())
+            .field("format", &self.format())
+            .field("value", &self.value())
+            .field("field", &self.field())
+            .field("tokens", &self.tokens())
+            .finish()
     }
 }
 
@@ -215,7 +347,7 @@ const BATCH: usize = 128;
 pub struct Cells<'a> {
     stream: &'a [u8],
     place: Place,
-    words: [u64; 4 * BATCH],
+    words: [[u64; 4]; BATCH],
     next: usize,
     filled: usize,
     ended: bool,
@@ -239,7 +371,7 @@ impl<'a> Cells<'a> {
         Cells {
             stream,
             place,
-            words: [0; 4 * BATCH],
+            words: [[0; 4]; BATCH],
             next: 0,
             filled: 0,
             ended: false,
@@ -248,6 +380,7 @@ impl<'a> Cells<'a> {
 
     fn fill(&mut self) {
         let Place { at, part, level } = self.place;
+        let words = self.words.as_flattened_mut();
         // SAFETY: both slices are valid for their lengths, and the words are lent to this call alone.
         let filled = unsafe {
             raw::station_next_cells(
@@ -256,8 +389,8 @@ impl<'a> Cells<'a> {
                 at,
                 part,
                 level,
-                self.words.as_mut_ptr(),
-                self.words.len(),
+                words.as_mut_ptr(),
+                words.len(),
             )
         };
         self.place = Place {
@@ -275,18 +408,29 @@ impl Iterator for Cells<'_> {
     type Item = Cell;
 
     fn next(&mut self) -> Option<Cell> {
-        if self.next == self.filled {
+        while self.next == self.filled {
             if self.ended {
                 return None;
             }
             self.fill();
-            if self.filled == 0 {
-                return None;
-            }
         }
-        let at = 4 * self.next;
+        let words = self.words[self.next];
         self.next += 1;
-        Some(Cell::from_words(&self.words[at..at + 4]))
+        Some(Cell(words))
+    }
+
+    /// A batch at a time: this is how `for_each`, `count` and `collect` go through a sheet.
+    fn fold<B, F: FnMut(B, Cell) -> B>(mut self, first: B, mut with: F) -> B {
+        let mut folded = first;
+        loop {
+            for &words in &self.words[self.next..self.filled] {
+                folded = with(folded, Cell(words));
+            }
+            if self.ended {
+                return folded;
+            }
+            self.fill();
+        }
     }
 }
 

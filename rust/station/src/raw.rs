@@ -6,6 +6,10 @@ pub struct Check {
     pub offset: usize,
     pub sheets: usize,
     pub strings: u32,
+    pub sheet: usize,
+    pub segment: usize,
+    pub at: usize,
+    pub end: usize,
 }
 
 #[repr(C)]
@@ -22,10 +26,13 @@ pub struct Units {
 }
 
 #[repr(C)]
-pub struct Sheets {
+pub struct SharedString {
+    pub ended: bool,
     pub number: u8,
-    pub offset: usize,
-    pub place: usize,
+    pub units: usize,
+    pub segment: usize,
+    pub at: usize,
+    pub end: usize,
 }
 
 #[repr(C)]
@@ -69,7 +76,15 @@ extern "C" {
         units: *mut u16,
         room: usize,
     ) -> Units;
-    pub fn station_sheets(stream: *const u8, length: usize) -> Sheets;
+    pub fn station_next_string(
+        stream: *const u8,
+        length: usize,
+        segment: usize,
+        at: usize,
+        end: usize,
+        units: *mut u16,
+        room: usize,
+    ) -> SharedString;
     pub fn station_next_sheet(stream: *const u8, length: usize, place: usize) -> Sheet;
     pub fn station_rows(stream: *const u8, length: usize, at: usize, part: u16, level: u8) -> u32;
     pub fn station_cells(stream: *const u8, length: usize, sheet: u32) -> Cells;

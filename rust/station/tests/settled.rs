@@ -1,6 +1,6 @@
 //! The cases that document 01 settles by example, asked of the compiled library.
 
-use station::{check, judge, Passed, Refusal};
+use station::{check, judge, FormulaResult, Refusal, Value};
 
 fn refused(number: u8, offset: usize) -> Result<(), Refusal> {
     Err(Refusal { number, offset })
@@ -27,13 +27,8 @@ fn globals_alone() {
     let mut stream = vec![0x09, 0x08, 0x10, 0x00, 0x00, 0x06, 0x05, 0x00];
     stream.resize(20, 0);
     stream.extend([0x0A, 0x00, 0x00, 0x00]);
-    assert_eq!(
-        check(&stream),
-        Ok(Passed {
-            sheets: 0,
-            strings: 0
-        })
-    );
+    let passed = check(&stream).map(|workbook| (workbook.sheets, workbook.strings));
+    assert_eq!(passed, Ok((0, 0)));
 }
 
 /// The SST of the example, in globals of its own.
@@ -59,4 +54,35 @@ fn a_string_over_a_continuation() {
         })
     );
     assert_eq!(short, [7]);
+    let workbook = check(&stream).expect("a stream that passes");
+    let strings: Vec<_> = workbook.strings().collect();
+    assert_eq!(strings, [[0x0041, 0x03A9]]);
+}
+
+/// A cell of each kind stands where it is said to.
+#[test]
+fn fields_and_tokens() {
+    let stream = include_bytes!("../../../cases/cells.in");
+    let workbook = check(stream).expect("a stream that passes");
+    let mut formulas = 0;
+    for cell in workbook.sheets().flat_map(|sheet| sheet.cells()) {
+        let field = &stream[cell.field()..];
+        match cell.value() {
+            Value::Blank => assert_eq!(field[..2], cell.format().to_le_bytes()),
+            Value::Text(index) => assert_eq!(field[..4], index.to_le_bytes()),
+            Value::Truth(truth) => assert_eq!(field[..2], [truth, 0]),
+            Value::Error(code) => assert_eq!(field[..2], [code, 1]),
+            Value::Formula(result) => {
+                formulas += 1;
+                let length = cell.tokens().len() as u16;
+                assert_eq!(field[14..16], length.to_le_bytes());
+                if let FormulaResult::Number(bits) = result {
+                    assert_eq!(field[..8], bits.to_le_bytes());
+                }
+            }
+            Value::Number(_) => assert!(!field.is_empty()),
+        }
+        assert_eq!(cell.is_blank(), cell.value() == Value::Blank);
+    }
+    assert!(formulas > 0);
 }

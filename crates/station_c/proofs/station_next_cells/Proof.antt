@@ -1,6 +1,7 @@
 use Prim.Native.Nat.{_-_}
-use borrow.Author.Needs.{needs}
 use Rattle.station_c.proofs.Laws.{Filling, filling-first, filling-next, full-seen, full-words, end-seen, end-words, room-left}
+use Rattle.station_c.proofs.Parts.{filling-on}
+use borrow.Author.Needs.{needs}
 use Rattle.station_c.proofs.station_next_cells.Statement.{statement}
 use Rattle.station_c.proofs.station_next_cells.Tie as tie
 
@@ -28,12 +29,14 @@ station-next-cells-spec =
     (λ c. search (filling-first, filling-next, room-left, needs))
     -- store-requires
     (λ c κs. search (room-left, needs))
-    -- add-n
+    -- add-fill-record
     (λ c. search needs)
+    -- fill-record-requires
+    (λ c κs. search needs)
     -- loop-less
     (λ c. search needs)
     -- loop-again
-    (λ c. search (filling-next, needs))
+    (λ c. search (filling-next, filling-on, needs))
     -- enum-told
     (λ c. search needs)
     -- same-length-2

@@ -7,11 +7,9 @@ pub store-spec : {M : Type 1} → statement M
 store-spec =
     tie.close
     (tie.spec
-    -- value-kind-requires
+    -- value-said-requires
     (λ c κs. search needs)
     -- head-word-requires
-    (λ c κs. search needs)
-    -- value-word-requires
     (λ c κs. search needs)
     -- u16-as-u64-requires
     (λ c κs. search needs)

@@ -1,11 +1,11 @@
 use Rattle.walk.proofs.Choice.{refl′}
 use Rattle.station_c.proofs.Laws.{value-seen}
 use borrow.Author.Needs.{needs}
-use Rattle.station_c.proofs.value_word.Statement.{statement}
-use Rattle.station_c.proofs.value_word.Tie as tie
+use Rattle.station_c.proofs.value_said.Statement.{statement}
+use Rattle.station_c.proofs.value_said.Tie as tie
 
-pub value-word-spec : {M : Type 1} → statement M
-value-word-spec =
+pub value-said-spec : {M : Type 1} → statement M
+value-said-spec =
     tie.close
     (tie.spec
     -- enum-told
@@ -30,12 +30,12 @@ value-word-spec =
     (λ c κs. search needs)
     -- enum-known-v-6
     (λ c. search needs)
-    -- result-word-requires
+    -- result-said-requires
     (λ c κs. search needs)
     -- returns
     (λ c. search needs)
     -- returns-2
-    (λ c. search (value-seen, refl′, needs))
+    (λ c. (search needs, search (value-seen, refl′, needs)))
     -- returns-3
     (λ c. search needs)
     -- returns-4

@@ -1,11 +1,11 @@
 use Rattle.walk.proofs.Choice.{refl′}
 use Rattle.station_c.proofs.Laws.{result-seen}
 use borrow.Author.Needs.{needs}
-use Rattle.station_c.proofs.result_word.Statement.{statement}
-use Rattle.station_c.proofs.result_word.Tie as tie
+use Rattle.station_c.proofs.result_said.Statement.{statement}
+use Rattle.station_c.proofs.result_said.Tie as tie
 
-pub result-word-spec : {M : Type 1} → statement M
-result-word-spec =
+pub result-said-spec : {M : Type 1} → statement M
+result-said-spec =
     tie.close
     (tie.spec
     -- enum-known-r
@@ -27,7 +27,7 @@ result-word-spec =
     -- enum-told-2
     (λ c. search needs)
     -- returns
-    (λ c. search (result-seen, refl′, needs))
+    (λ c. (search needs, search (result-seen, refl′, needs)))
     -- returns-2
     (λ c. search needs)
     -- returns-3

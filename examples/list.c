@@ -1,0 +1,69 @@
+/* list < STREAM: the sheets and cells of a workbook stream, a line each, by the proved library.
+ *
+ *     rt staticlib station_c
+ *     cc -std=c11 -Iinclude examples/list.c target/staticlib/libstation_c.a -o list
+ */
+#include <inttypes.h>
+#include <stdio.h>
+#include <stdlib.h>
+
+#include "station.h"
+
+enum { LIMIT = 16777216, BATCH = 128 };
+
+struct place { size_t at; uint16_t part; uint8_t level; };
+
+static const char *const kinds[] = {"blank", "number", "text", "truth", "error", "formula number", "formula text", "formula truth", "formula error", "formula empty"};
+
+static void print_cell(const uint64_t *words) {
+    unsigned row = words[0] & 0xFFFF, column = words[0] >> 16 & 0xFFFF, kind = words[0] >> 48 & 0xFFFF;
+    printf("%u %u %s", row, column, kinds[kind]);
+    switch (kind) {
+    case 1: case 5: printf(" %016" PRIX64, words[1]); break;
+    case 2: case 3: case 7: printf(" %" PRIu64, words[1]); break;
+    case 4: case 8: printf(" %02" PRIX64, words[1]); break;
+    }
+    putchar('\n');
+}
+
+/* Goes through the cells from a place on, prints them if asked to, and counts them. */
+static size_t go_through(const uint8_t *stream, size_t length, struct place from, bool print) {
+    uint64_t words[4 * BATCH];
+    size_t count = 0;
+    for (;;) {
+        struct station_filled batch = station_next_cells(stream, length, from.at, from.part, from.level, words, 4 * BATCH);
+        for (size_t i = 0; print && i < batch.cells; i++) print_cell(words + 4 * i);
+        count += batch.cells;
+        if (batch.ended) return count;
+        from = (struct place){batch.at, batch.part, batch.level};
+    }
+}
+
+/* Goes through the sheets, and prints them with their cells if asked to; gives the number of cells. */
+static size_t all_sheets(const uint8_t *stream, size_t length, size_t first, bool print) {
+    size_t number = 0, cells = 0;
+    for (size_t next = first;;) {
+        struct station_sheet sheet = station_next_sheet(stream, length, next);
+        if (sheet.ended) return cells;
+        struct place start = {sheet.at, sheet.part, sheet.level};
+        if (print) printf("sheet %zu rows %" PRIu32 "\n", number, station_rows(stream, length, sheet.at, sheet.part, sheet.level));
+        cells += go_through(stream, length, start, print);
+        next = sheet.next;
+        number++;
+    }
+}
+
+int main(void) {
+    uint8_t *stream = malloc(LIMIT + 1);
+    if (stream == NULL) return 2;
+    size_t length = fread(stream, 1, LIMIT + 1, stdin);
+    struct station_check check = station_check(stream, length);
+    if (check.number != 0) {
+        printf("refused %u at %zu\n", (unsigned)check.number, check.offset);
+        return 1;
+    }
+    printf("sheets %zu strings %" PRIu32 " cells %zu\n", check.sheets, check.strings, all_sheets(stream, length, check.sheet, false));
+    all_sheets(stream, length, check.sheet, true);
+    free(stream);
+    return 0;
+}

@@ -1,0 +1,129 @@
+//! correct: one cell's new value, in a file that is replaced whole.
+
+use crate::arguments::Arguments;
+use crate::input::{Stream, STANDARD};
+use crate::outcome::{complain, Failure, Output, Status};
+use crate::replace::{Held, Place};
+use crate::text::Name;
+use crate::value;
+use station::{NewValue, Refusal};
+use std::ffi::OsStr;
+use std::io::{self, Write};
+use std::path::Path;
+
+/// What is asked of a stream.
+struct Question {
+    sheet: u32,
+    row: u32,
+    column: u32,
+    value: NewValue,
+}
+
+impl Question {
+    fn of(arguments: &Arguments) -> Result<Self, Failure> {
+        Ok(Question {
+            sheet: arguments.number(1)?,
+            row: arguments.number(2)?,
+            column: arguments.number(3)?,
+            value: value::read(arguments.operand(4), arguments.operand(5))?,
+        })
+    }
+
+    fn ask(&self, stream: &mut Stream<'_>) -> Result<(), Refusal> {
+        station::correct(
+            &mut stream.bytes,
+            self.sheet,
+            self.row,
+            self.column,
+            self.value,
+        )
+    }
+}
+
+/// Where the corrected stream goes.
+enum Target<'a> {
+    InPlace,
+    File(&'a OsStr),
+    Output,
+}
+
+impl<'a> Target<'a> {
+    fn of(arguments: &'a Arguments) -> Result<Self, Failure> {
+        match (arguments.option("--output"), arguments.has("--in-place")) {
+            (Some(out), false) if out == STANDARD => Ok(Target::Output),
+            (Some(out), false) => Ok(Target::File(out)),
+            (None, true) if arguments.operand(0) == STANDARD => Err(Failure::usage(
+                "standard input can't be replaced: --output is needed",
+            )),
+            (None, true) => Ok(Target::InPlace),
+            _ => Err(Failure::usage("one of --output and --in-place is needed")),
+        }
+    }
+}
+
+pub fn run(arguments: &Arguments, out: &mut Output) -> Result<Status, Failure> {
+    let file = arguments.operand(0);
+    let question = Question::of(arguments)?;
+    match Target::of(arguments)? {
+        Target::InPlace => in_place(file, &question, out),
+        Target::File(name) => to_file(file, &question, name, out),
+        Target::Output => to_output(file, &question, out),
+    }
+}
+
+fn in_place(file: &OsStr, question: &Question, out: &mut Output) -> Result<Status, Failure> {
+    let held = Held::open(Path::new(file)).map_err(|error| Failure::of_file(file, &error))?;
+    let mut stream = Stream::read_from(file, &held.file)?;
+    match question.ask(&mut stream) {
+        Ok(()) => put(&held.place, file, &stream, out),
+        Err(refusal) => stream.refuse(refusal, out),
+    }
+}
+
+fn to_file(
+    file: &OsStr,
+    question: &Question,
+    name: &OsStr,
+    out: &mut Output,
+) -> Result<Status, Failure> {
+    let place = Place::of(Path::new(name)).map_err(|error| Failure::of_file(name, &error))?;
+    let mut stream = Stream::read(file)?;
+    match question.ask(&mut stream) {
+        Ok(()) => put(&place, name, &stream, out),
+        Err(refusal) => stream.refuse(refusal, out),
+    }
+}
+
+fn put(
+    place: &Place,
+    name: &OsStr,
+    stream: &Stream<'_>,
+    out: &mut Output,
+) -> Result<Status, Failure> {
+    place
+        .put(&stream.bytes)
+        .map_err(|error| Failure::of_file(name, &error))?;
+    // The file is replaced by now, so this can no longer be a failure.
+    if let Err(error) = place.sync_folder() {
+        let name = Name(name);
+        complain(format_args!(
+            "{name} is written, but a power cut may still undo it: {error}"
+        ));
+    }
+    writeln!(out, "granted")?;
+    Ok(Status::Answered)
+}
+
+/// Standard output has the stream and nothing else, so the answer goes to standard error.
+fn to_output(file: &OsStr, question: &Question, out: &mut Output) -> Result<Status, Failure> {
+    let mut stream = Stream::read(file)?;
+    match question.ask(&mut stream) {
+        Ok(()) => {
+            out.write_all(&stream.bytes)?;
+            out.flush()?;
+            let _ = writeln!(io::stderr(), "granted");
+            Ok(Status::Answered)
+        }
+        Err(refusal) => stream.refuse(refusal, &mut io::stderr()),
+    }
+}

@@ -1,0 +1,114 @@
+//! export: the cells of a workbook with their texts, as CSV or JSON.
+
+mod csv;
+mod json;
+mod number;
+mod strings;
+
+use crate::arguments::Arguments;
+use crate::input::Stream;
+use crate::outcome::{Failure, Output, Status};
+use station::{Cell, FormulaResult, Refusal, Sheet, Value, Workbook};
+use strings::SharedStrings;
+
+pub fn run(arguments: &Arguments, out: &mut Output) -> Result<Status, Failure> {
+    let write = match (arguments.has("--csv"), arguments.has("--json")) {
+        (true, false) => csv::write,
+        (false, true) => json::write,
+        _ => return Err(Failure::usage("one of --csv and --json is needed")),
+    };
+    let only = arguments.number_option("--sheet")?;
+    let stream = Stream::read(arguments.operand(0))?;
+    match Book::read(&stream.bytes, only) {
+        Ok(book) => {
+            write(&book, out)?;
+            Ok(Status::Answered)
+        }
+        Err(refusal) => stream.refuse(refusal, out),
+    }
+}
+
+/// A workbook with its strings at hand.
+struct Book<'a> {
+    stream: &'a [u8],
+    workbook: Workbook<'a>,
+    strings: SharedStrings,
+    /// The one sheet that is asked for, where not all are.
+    only: Option<u32>,
+}
+
+impl<'a> Book<'a> {
+    fn read(stream: &'a [u8], only: Option<u32>) -> Result<Self, Refusal> {
+        let workbook = station::check(stream)?;
+        if let Some(number) = only {
+            station::cells(stream, number)?;
+        }
+        Ok(Book {
+            stream,
+            workbook,
+            strings: SharedStrings::of(&workbook),
+            only,
+        })
+    }
+
+    /// The sheets that are asked for, with their numbers.
+    fn sheets(&self) -> impl Iterator<Item = (usize, Sheet<'a>)> {
+        let only = self.only.map(|number| number as usize);
+        let asked = move |number: usize| only.is_none_or(|only| only == number);
+        self.workbook
+            .sheets()
+            .enumerate()
+            .filter(move |(number, _)| asked(*number))
+    }
+
+    /// The kind of a cell, and what it shows.
+    fn shown(&self, cell: &Cell) -> (&'static str, Shown<'_>) {
+        match cell.value() {
+            Value::Blank => ("blank", Shown::Nothing),
+            Value::Number(bits) => ("number", Shown::Number(bits)),
+            Value::Text(index) => ("text", Shown::Text(self.strings.get(index))),
+            Value::Truth(truth) => ("truth", Shown::Truth(truth != 0)),
+            Value::Error(code) => ("error", Shown::Error(error_name(code))),
+            Value::Formula(FormulaResult::Number(bits)) => ("formula number", Shown::Number(bits)),
+            Value::Formula(FormulaResult::Text) => ("formula text", Shown::Nothing),
+            Value::Formula(FormulaResult::Truth(truth)) => {
+                ("formula truth", Shown::Truth(truth != 0))
+            }
+            Value::Formula(FormulaResult::Error(code)) => {
+                ("formula error", Shown::Error(error_name(code)))
+            }
+            Value::Formula(FormulaResult::Empty) => ("formula empty", Shown::Text(&[])),
+        }
+    }
+
+    /// The token bytes of a formula cell.
+    fn tokens(&self, cell: &Cell) -> Option<&'a [u8]> {
+        match cell.value() {
+            Value::Formula(_) => self.stream.get(cell.tokens()),
+            _ => None,
+        }
+    }
+}
+
+/// What a cell shows.
+enum Shown<'a> {
+    /// A blank, or the text of a formula, which its record doesn't hold.
+    Nothing,
+    Number(u64),
+    Text(&'a [u16]),
+    Truth(bool),
+    Error(&'static str),
+}
+
+/// The name that Excel shows for an error code. A stream that passes has no others.
+fn error_name(code: u8) -> &'static str {
+    match code {
+        0x00 => "#NULL!",
+        0x07 => "#DIV/0!",
+        0x0F => "#VALUE!",
+        0x17 => "#REF!",
+        0x1D => "#NAME?",
+        0x24 => "#NUM!",
+        _ => "#N/A",
+    }
+}

@@ -1,0 +1,103 @@
+//! judge: formulas in hex, a line of answer each.
+
+use crate::arguments::Arguments;
+use crate::input::STANDARD;
+use crate::outcome::{Failure, Output, Status};
+use std::ffi::OsString;
+use std::io::{self, BufRead, BufReader, Read, Write};
+
+/// No line is read on without end. What is longer can only be spaces, or a formula far over the greatest length.
+const LONGEST_LINE: u64 = 1 << 26;
+
+const NOT_HEX: &str = "not hex: each byte of a formula is two digits, 0 to 9 or A to F";
+
+pub fn run(arguments: &Arguments, out: &mut Output) -> Result<Status, Failure> {
+    match arguments.operands() {
+        [only] if only == STANDARD => judge_lines(io::stdin().lock(), out),
+        words => judge_words(words, out),
+    }
+}
+
+/// Answers nothing unless all the words are hex.
+fn judge_words(words: &[OsString], out: &mut Output) -> Result<Status, Failure> {
+    let mut formulas = Vec::with_capacity(words.len());
+    for (done, word) in words.iter().enumerate() {
+        let formula = bytes_of(word.as_encoded_bytes());
+        let message = || Failure::usage(format!("formula {} is {NOT_HEX}", done + 1));
+        formulas.push(formula.ok_or_else(message)?);
+    }
+    let mut status = Status::Answered;
+    for formula in formulas {
+        status = status.max(answer(&formula, out)?);
+    }
+    Ok(status)
+}
+
+/// Answers line by line as they come, up to the first that is not hex.
+fn judge_lines(source: impl Read, out: &mut Output) -> Result<Status, Failure> {
+    let mut source = BufReader::new(source);
+    let mut status = Status::Answered;
+    let mut line = Vec::new();
+    for number in 1.. {
+        line.clear();
+        let read = source
+            .by_ref()
+            .take(LONGEST_LINE)
+            .read_until(b'\n', &mut line);
+        match read {
+            Ok(0) => break,
+            Ok(_) => {}
+            Err(error) => return Err(Failure::of_file(STANDARD.as_ref(), &error)),
+        }
+        let formula = formula_of(&line).map_err(|fault| {
+            Failure::File(format!("line {number} of standard input is {fault}"))
+        })?;
+        status = status.max(answer(&formula, out)?);
+        // Whoever asks line by line waits for the answer before the next.
+        if source.buffer().is_empty() {
+            out.flush()?;
+        }
+    }
+    Ok(status)
+}
+
+fn formula_of(line: &[u8]) -> Result<Vec<u8>, &'static str> {
+    if line.len() as u64 == LONGEST_LINE && !line.ends_with(b"\n") {
+        return Err("too long");
+    }
+    bytes_of(line).ok_or(NOT_HEX)
+}
+
+/// The bytes that are written in hex, with or without space between them.
+fn bytes_of(text: &[u8]) -> Option<Vec<u8>> {
+    let mut bytes = Vec::with_capacity(text.len() / 2);
+    for group in text.split(u8::is_ascii_whitespace) {
+        let (pairs, rest) = group.as_chunks();
+        if !rest.is_empty() {
+            return None;
+        }
+        for &[high, low] in pairs {
+            bytes.push(digit(high)? << 4 | digit(low)?);
+        }
+    }
+    Some(bytes)
+}
+
+fn digit(character: u8) -> Option<u8> {
+    char::from(character)
+        .to_digit(16)
+        .and_then(|digit| u8::try_from(digit).ok())
+}
+
+fn answer(formula: &[u8], out: &mut Output) -> io::Result<Status> {
+    match station::judge(formula) {
+        Ok(()) => {
+            writeln!(out, "accepted")?;
+            Ok(Status::Answered)
+        }
+        Err(refusal) => {
+            writeln!(out, "{refusal}")?;
+            Ok(Status::Refused)
+        }
+    }
+}

@@ -1,0 +1,135 @@
+//! list, sheets, strings and fetch: what a stream holds, a line each.
+
+use crate::arguments::Arguments;
+use crate::input::Stream;
+use crate::outcome::{Failure, Output, Status};
+use crate::text::InLine;
+use station::{Cell, FormulaResult, SheetKind, Value, Workbook};
+use std::fmt::{self, Display, Formatter};
+use std::io::{self, Write};
+
+/// No string has more units.
+const LONGEST_STRING: u32 = 65_535;
+
+/// Checks the stream, and has its lines written where it passes.
+fn answer(
+    arguments: &Arguments,
+    out: &mut Output,
+    write: fn(&Workbook<'_>, &mut Output) -> io::Result<()>,
+) -> Result<Status, Failure> {
+    let stream = Stream::read(arguments.operand(0))?;
+    match station::check(&stream.bytes) {
+        Ok(workbook) => {
+            write(&workbook, out)?;
+            Ok(Status::Answered)
+        }
+        Err(refusal) => stream.refuse(refusal, out),
+    }
+}
+
+pub fn list(arguments: &Arguments, out: &mut Output) -> Result<Status, Failure> {
+    answer(arguments, out, write_list)
+}
+
+/// The lines of the program.
+fn write_list(workbook: &Workbook<'_>, out: &mut Output) -> io::Result<()> {
+    let (sheets, strings, cells) = (workbook.sheets, workbook.strings, count_cells(workbook));
+    writeln!(out, "sheets {sheets} strings {strings} cells {cells}")?;
+    for (number, sheet) in workbook.sheets().enumerate() {
+        writeln!(out, "sheet {number} rows {}", sheet.rows())?;
+        for cell in sheet.cells() {
+            writeln!(out, "{}", CellLine(&cell))?;
+        }
+    }
+    Ok(())
+}
+
+/// The cells of all sheets.
+pub fn count_cells(workbook: &Workbook<'_>) -> usize {
+    workbook.sheets().map(|sheet| sheet.cells().count()).sum()
+}
+
+struct CellLine<'a>(&'a Cell);
+
+impl Display for CellLine<'_> {
+    fn fmt(&self, f: &mut Formatter<'_>) -> fmt::Result {
+        write!(f, "{} {} ", self.0.row(), self.0.column())?;
+        match self.0.value() {
+            Value::Blank => f.write_str("blank"),
+            Value::Number(bits) => write!(f, "number {bits:016X}"),
+            Value::Text(index) => write!(f, "text {index}"),
+            Value::Truth(truth) => write!(f, "truth {truth}"),
+            Value::Error(code) => write!(f, "error {code:02X}"),
+            Value::Formula(FormulaResult::Number(bits)) => write!(f, "formula number {bits:016X}"),
+            Value::Formula(FormulaResult::Text) => f.write_str("formula text"),
+            Value::Formula(FormulaResult::Truth(truth)) => write!(f, "formula truth {truth}"),
+            Value::Formula(FormulaResult::Error(code)) => write!(f, "formula error {code:02X}"),
+            Value::Formula(FormulaResult::Empty) => f.write_str("formula empty"),
+        }
+    }
+}
+
+pub fn sheets(arguments: &Arguments, out: &mut Output) -> Result<Status, Failure> {
+    answer(arguments, out, write_sheets)
+}
+
+fn write_sheets(workbook: &Workbook<'_>, out: &mut Output) -> io::Result<()> {
+    for (number, sheet) in workbook.sheets().enumerate() {
+        writeln!(
+            out,
+            "{number}\t{}\t{}\t{}\t{}",
+            type_name(sheet.kind),
+            sheet.rows(),
+            sheet.cells().count(),
+            InLine(&sheet.name_units().collect::<Vec<_>>())
+        )?;
+    }
+    Ok(())
+}
+
+/// The type of a sheet in a word.
+pub fn type_name(kind: SheetKind) -> &'static str {
+    match kind {
+        SheetKind::Worksheet => "worksheet",
+        SheetKind::Macro => "macro",
+        SheetKind::Chart => "chart",
+    }
+}
+
+pub fn strings(arguments: &Arguments, out: &mut Output) -> Result<Status, Failure> {
+    answer(arguments, out, write_strings)
+}
+
+fn write_strings(workbook: &Workbook<'_>, out: &mut Output) -> io::Result<()> {
+    let mut strings = workbook.strings();
+    let mut index = 0;
+    while let Some(units) = strings.next_units() {
+        writeln!(out, "{index}\t{}", InLine(units))?;
+        index += 1;
+    }
+    Ok(())
+}
+
+pub fn fetch(arguments: &Arguments, out: &mut Output) -> Result<Status, Failure> {
+    let index = arguments.number(1)?;
+    let room = arguments.number_option("--room")?;
+    let stream = Stream::read(arguments.operand(0))?;
+    // More room than the longest string takes changes no answer.
+    let room = room.map_or(LONGEST_STRING, |room| room.min(LONGEST_STRING));
+    let mut buffer = vec![0; room as usize];
+    match station::fetch(&stream.bytes, index, &mut buffer) {
+        Ok(count) => {
+            write_units(&buffer[..count], out)?;
+            Ok(Status::Answered)
+        }
+        Err(refusal) => stream.refuse(refusal, out),
+    }
+}
+
+fn write_units(units: &[u16], out: &mut Output) -> io::Result<()> {
+    write!(out, "units {}", units.len())?;
+    for unit in units {
+        write!(out, " {unit:04X}")?;
+    }
+    writeln!(out)
+}

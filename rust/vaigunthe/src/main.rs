@@ -1,0 +1,39 @@
+//! vaigunthe: checks, lists, exports and corrects workbook streams. Every answer about a stream or a formula is the proved library's; this crate reads
+//! arguments and files, and writes the answers down.
+
+#![forbid(unsafe_code)]
+
+mod arguments;
+mod check;
+mod commands;
+mod correct;
+mod export;
+mod help;
+mod input;
+mod judge;
+mod lines;
+mod outcome;
+mod progress;
+mod refusals;
+mod replace;
+mod text;
+mod value;
+
+use outcome::{Failure, Output};
+use std::ffi::OsString;
+use std::io::{self, BufWriter, Write};
+use std::process::ExitCode;
+
+const BUFFER: usize = 65_536;
+
+fn main() -> ExitCode {
+    let words: Vec<OsString> = std::env::args_os().skip(1).collect();
+    let mut out: Output = BufWriter::with_capacity(BUFFER, io::stdout().lock());
+    let ended = commands::run(&words, &mut out);
+    // Whatever was answered before a failure comes out before its message.
+    let flushed = out.flush().map_err(Failure::Output);
+    match ended.and_then(|status| flushed.map(|()| status)) {
+        Ok(status) => status.into(),
+        Err(failure) => failure.report(),
+    }
+}

@@ -1,0 +1,121 @@
+//! The text of a workbook as it is written down: in lines, in CSV and in JSON.
+
+use std::ffi::OsStr;
+use std::fmt::{self, Display, Formatter, Write};
+
+/// Characters that break a line, can't be seen, or turn the direction in which others are read.
+fn is_control(character: char) -> bool {
+    character.is_control()
+        || matches!(character,
+            '\u{061C}' | '\u{200E}' | '\u{200F}' | '\u{2028}'..='\u{202E}' | '\u{2066}'..='\u{2069}')
+}
+
+/// The units as characters; a lone surrogate, which is none, is given as it is.
+fn characters(units: &[u16]) -> impl Iterator<Item = Result<char, u16>> + '_ {
+    char::decode_utf16(units.iter().copied())
+        .map(|character| character.map_err(|lone| lone.unpaired_surrogate()))
+}
+
+fn write_code(f: &mut Formatter<'_>, code: u32) -> fmt::Result {
+    write!(f, "\\u{{{code:X}}}")
+}
+
+fn write_in_line(f: &mut Formatter<'_>, character: char) -> fmt::Result {
+    match character {
+        '\\' => f.write_str("\\\\"),
+        '\t' => f.write_str("\\t"),
+        '\n' => f.write_str("\\n"),
+        '\r' => f.write_str("\\r"),
+        hidden if is_control(hidden) => write_code(f, hidden.into()),
+        plain => f.write_char(plain),
+    }
+}
+
+/// Text in a line, which it neither ends nor splits.
+pub struct InLine<'a>(pub &'a [u16]);
+
+impl Display for InLine<'_> {
+    fn fmt(&self, f: &mut Formatter<'_>) -> fmt::Result {
+        characters(self.0).try_for_each(|character| match character {
+            Ok(character) => write_in_line(f, character),
+            Err(lone) => write_code(f, lone.into()),
+        })
+    }
+}
+
+/// The name of a file in a line. Bytes that are no UTF-8 are written as `\xFF`.
+pub struct Name<'a>(pub &'a OsStr);
+
+impl Display for Name<'_> {
+    fn fmt(&self, f: &mut Formatter<'_>) -> fmt::Result {
+        for chunk in self.0.as_encoded_bytes().utf8_chunks() {
+            for character in chunk.valid().chars() {
+                write_in_line(f, character)?;
+            }
+            for byte in chunk.invalid() {
+                write!(f, "\\x{byte:02X}")?;
+            }
+        }
+        Ok(())
+    }
+}
+
+/// Text in a CSV field, before it is quoted. A backslash is a plain character there; it is doubled only where what comes next would make an escape
+/// of it.
+pub struct InCsv<'a>(pub &'a [u16]);
+
+impl Display for InCsv<'_> {
+    fn fmt(&self, f: &mut Formatter<'_>) -> fmt::Result {
+        let mut backslashes = 0;
+        let mut rest = characters(self.0).map(for_csv).peekable();
+        while let Some(character) = rest.next() {
+            if character == Ok('\\') {
+                backslashes += 1;
+                continue;
+            }
+            let opens = character == Ok('u') && rest.peek() == Some(&Ok('{'));
+            let times = if opens || character.is_err() { 2 } else { 1 };
+            write_backslashes(f, times * backslashes)?;
+            backslashes = 0;
+            match character {
+                Ok(plain) => f.write_char(plain)?,
+                Err(code) => write_code(f, code)?,
+            }
+        }
+        write_backslashes(f, backslashes)
+    }
+}
+
+/// A character that a field holds as it is, or the code by which another is written.
+fn for_csv(character: Result<char, u16>) -> Result<char, u32> {
+    match character {
+        Ok(plain @ ('\t' | '\n' | '\r')) => Ok(plain),
+        Ok(hidden) if is_control(hidden) => Err(hidden.into()),
+        Ok(plain) => Ok(plain),
+        Err(lone) => Err(lone.into()),
+    }
+}
+
+fn write_backslashes(f: &mut Formatter<'_>, count: usize) -> fmt::Result {
+    (0..count).try_for_each(|_| f.write_char('\\'))
+}
+
+/// Text as a JSON string, with its quotes.
+pub struct InJson<'a>(pub &'a [u16]);
+
+impl Display for InJson<'_> {
+    fn fmt(&self, f: &mut Formatter<'_>) -> fmt::Result {
+        f.write_char('"')?;
+        characters(self.0).try_for_each(|character| match character {
+            Ok('"') => f.write_str("\\\""),
+            Ok('\\') => f.write_str("\\\\"),
+            Ok('\t') => f.write_str("\\t"),
+            Ok('\n') => f.write_str("\\n"),
+            Ok('\r') => f.write_str("\\r"),
+            Ok(hidden) if is_control(hidden) => write!(f, "\\u{:04X}", u32::from(hidden)),
+            Ok(plain) => f.write_char(plain),
+            Err(lone) => write!(f, "\\u{lone:04X}"),
+        })?;
+        f.write_char('"')
+    }
+}

@@ -1,0 +1,91 @@
+//! fetch.
+
+use crate::made::one;
+use crate::tool::{case, run, run_with};
+use crate::words;
+
+/// The line for a string in a buffer of so many units.
+fn expected(stream: &[u8], index: u32, room: usize) -> (i32, String) {
+    let mut buffer = vec![0; room];
+    match second_reader::fetch(stream, index, &mut buffer) {
+        Ok(count) => {
+            let units: String = buffer[..count]
+                .iter()
+                .map(|unit| format!(" {unit:04X}"))
+                .collect();
+            (0, format!("units {count}{units}\n"))
+        }
+        Err(refusal) => (1, format!("{refusal}\n")),
+    }
+}
+
+#[test]
+fn units_of_a_string() {
+    let file = case("strings-over-continues.in");
+    let units = "units 5 0061 0062 03A9 03C9 0063\n";
+    run(words!["fetch", file, "0"]).says(0, units);
+    run(words!["fetch", file, "0", "--room", "5"]).says(0, units);
+    run(words!["fetch", "--room=6", file, "0"]).says(0, units);
+    run(words!["fetch", file, "0", "--room", "4294967295"]).says(0, units);
+    run(words!["fetch", file, "0", "--room", "4"]).says(1, "refused 12 at 0\n");
+    run(words!["fetch", file, "2"]).says(1, "refused 11 at 0\n");
+    run(words!["fetch", file, "2", "--room", "0"]).says(1, "refused 11 at 0\n");
+    run(words!["fetch", file, "4294967295"]).says(1, "refused 11 at 0\n");
+    run(words!["fetch", case("cells.in"), "2"]).says(0, "units 0\n");
+    run(words!["fetch", case("cells.in"), "2", "--room", "0"]).says(0, "units 0\n");
+    run(words!["fetch", case("refused-7-orphan.in"), "0"]).says(1, "refused 7 at 20\n");
+}
+
+/// The example of document 01: a string over a continuation.
+#[test]
+fn the_settled_example() {
+    let mut stream = vec![0x09, 0x08, 0x10, 0x00, 0x00, 0x06, 0x05, 0x00];
+    stream.resize(20, 0);
+    stream.extend([0xFC, 0x00, 0x0C, 0x00]);
+    stream.extend([1, 0, 0, 0, 1, 0, 0, 0, 2, 0, 0, 0x41]);
+    stream.extend([0x3C, 0x00, 0x03, 0x00, 0x01, 0xA9, 0x03]);
+    stream.extend([0x0A, 0x00, 0x00, 0x00]);
+    run_with(&["fetch", "-", "0"], &stream).says(0, "units 2 0041 03A9\n");
+}
+
+/// Where no room is given there is room for the longest string of all.
+#[test]
+fn the_longest_string() {
+    let mut stream = vec![0x09, 0x08, 0x10, 0x00, 0x00, 0x06, 0x05, 0x00];
+    stream.resize(20, 0);
+    stream.extend([0xFC, 0x00, 12, 0x00]);
+    stream.extend([1, 0, 0, 0, 1, 0, 0, 0, 0xFF, 0xFF, 0, b'x']);
+    let mut left = 65_534;
+    while left > 0 {
+        let count = left.min(8_000);
+        stream.extend([0x3C, 0x00]);
+        stream.extend((count as u16 + 1).to_le_bytes());
+        stream.push(0);
+        stream.resize(stream.len() + count, b'x');
+        left -= count;
+    }
+    stream.extend([0x0A, 0x00, 0x00, 0x00]);
+    let units = format!("units 65535{}\n", " 0078".repeat(65_535));
+    run_with(&["fetch", "-", "0"], &stream).says(0, &units);
+    run_with(&["fetch", "-", "0", "--room", "65534"], &stream).says(1, "refused 12 at 0\n");
+}
+
+#[test]
+fn made_streams() {
+    for seed in 0..200 {
+        let stream = streams::stream(seed);
+        let question = streams::fetch(seed, &stream);
+        let (index, room) = (question.index.to_string(), question.units.to_string());
+        let (status, line) = expected(&stream, question.index, question.units);
+        run_with(&["fetch", "-", &index, "--room", &room], &stream).says(status, &line);
+    }
+}
+
+#[test]
+fn what_is_no_index_or_room() {
+    let stream = one(&[], vec![]);
+    for index in ["x", "-1", "+1", "1.0", "", " 1", "4294967296"] {
+        run_with(&["fetch", "-", index], &stream).fails("INDEX");
+        run_with(&["fetch", "-", "0", "--room", index], &stream).fails("--room");
+    }
+}

@@ -1,0 +1,93 @@
+//! list: the lines of the program.
+
+use crate::tool::{case, case_inputs, run, run_with, Folder};
+use crate::words;
+use second_reader::{FormulaResult, Value};
+use std::fmt::Write;
+use std::fs;
+
+/// The lines of document 01, from what the second reader reads.
+fn lines_of(stream: &[u8]) -> String {
+    let reading = second_reader::read(stream).expect("a stream that passes");
+    let cells: usize = reading.sheets.iter().map(|sheet| sheet.cells.len()).sum();
+    let (sheets, strings) = (reading.sheets.len(), reading.strings.len());
+    let mut lines = format!("sheets {sheets} strings {strings} cells {cells}\n");
+    for (number, sheet) in reading.sheets.iter().enumerate() {
+        writeln!(lines, "sheet {number} rows {}", sheet.rows).expect("a line");
+        for cell in &sheet.cells {
+            let value = match cell.value {
+                Value::Formula(result) => format!("formula {}", result_words(result)),
+                Value::Blank => "blank".to_string(),
+                Value::Number(bits) => format!("number {bits:016X}"),
+                Value::Text(index) => format!("text {index}"),
+                Value::Truth(truth) => format!("truth {truth}"),
+                Value::Error(code) => format!("error {code:02X}"),
+            };
+            writeln!(lines, "{} {} {value}", cell.row, cell.column).expect("a line");
+        }
+    }
+    lines
+}
+
+fn result_words(result: FormulaResult) -> String {
+    match result {
+        FormulaResult::Number(bits) => format!("number {bits:016X}"),
+        FormulaResult::Text => "text".to_string(),
+        FormulaResult::Truth(truth) => format!("truth {truth}"),
+        FormulaResult::Error(code) => format!("error {code:02X}"),
+        FormulaResult::Empty => "empty".to_string(),
+    }
+}
+
+#[test]
+fn the_stored_cases() {
+    let mut listed = 0;
+    for input in case_inputs() {
+        let stored = fs::read_to_string(input.with_extension("out")).expect("its output");
+        if stored == "too long\n" {
+            continue;
+        }
+        let status = i32::from(stored.starts_with("refused "));
+        run(words!["list", input]).says(status, &stored);
+        run_with(&["list", "-"], &fs::read(&input).expect("an input")).says(status, &stored);
+        listed += 1;
+    }
+    assert!(listed >= 20, "only {listed} cases listed");
+}
+
+#[test]
+fn made_streams() {
+    for seed in 0..200 {
+        let stream = streams::stream(seed);
+        let status = i32::from(second_reader::check(&stream).is_err());
+        run_with(&["list", "-"], &stream).says(status, &second_reader::print(&stream));
+    }
+}
+
+/// What the program calls too long is listed here.
+#[test]
+fn streams_over_65536_bytes() {
+    let input = case("65537-bytes.in");
+    let lines = "sheets 1 strings 0 cells 1\nsheet 0 rows 13\n12 3 number 3FF0000000000000\n";
+    run(words!["list", input]).says(0, lines);
+    for kind in [streams::Big::Mixed, streams::Big::MulRks] {
+        let stream = streams::big(kind, 300_000);
+        run_with(&["list", "-"], &stream).says(0, &lines_of(&stream));
+    }
+    let mut cut = streams::big(streams::Big::Numbers, 300_000);
+    cut.truncate(200_000);
+    let refusal = second_reader::check(&cut).expect_err("a cut stream");
+    run_with(&["list", "-"], &cut).says(1, &format!("{refusal}\n"));
+}
+
+#[test]
+fn a_stream_over_the_greatest_length() {
+    let folder = Folder::new();
+    let path = folder.put("long", &vec![0; 16_777_217]);
+    run(words!["list", path]).says(1, "refused 1 at 0\n");
+}
+
+#[test]
+fn an_absent_file() {
+    run(words!["list", case("no-such-file")]).fails("no-such-file: ");
+}

@@ -1,0 +1,17 @@
+//! The command line as a user meets it: the built tool is run over the stored cases and over made streams. What it must print is taken from the
+//! second reader, or written down after document 01.
+
+mod check;
+mod correct;
+mod export;
+mod fetch;
+mod judge;
+mod list;
+mod made;
+mod parse;
+mod replace;
+mod sheets;
+mod strings;
+mod tool;
+mod tour;
+mod usage;
