@@ -47,7 +47,8 @@ uint32_t station_rows(const uint8_t *stream, size_t length, size_t at, uint16_t 
  *   row, column, format and the value's kind, 16 bits each from the lowest;
  *   the value: a number's 64 bits, a text's index, a truth or an error code, else 0;
  *   the offset of the value field; the number of a formula's token bytes, which start 16 bytes after it.
- * Kinds: 0 blank, 1 number, 2 text, 3 truth, 4 error; a formula's result: 5 number, 6 text, 7 truth, 8 error, 9 empty. */
+ * Kinds: 0 blank, 1 number, 2 text, 3 truth, 4 error; a formula's result: 5 number, 6 text, 7 truth, 8 error, 9 empty.
+ * The list ended, or goes on at the place at, part, level. */
 struct station_cells { uint8_t number; size_t offset; size_t at; uint16_t part; uint8_t level; };
 struct station_filled { size_t cells; bool ended; size_t at; uint16_t part; uint8_t level; };
 struct station_cells station_cells(const uint8_t *stream, size_t length, uint32_t sheet);

@@ -10,9 +10,11 @@ use borrow.Author.Tests.{eqb-true, ltb-false, leb-true}
 use Rattle.walk.specs.Choice.{pick}
 use Rattle.walk.proofs.Choice.{pick-eq, pick-ne, pick-lt, pick-nlt, pick-le, pick-nle}
 use Rattle.le.specs.Bytes.{u16At}
+use Rattle.value.specs.declared.Field.{Field}
+use Rattle.value.specs.declared.Field.the-variants.{NoField, Float, RkWord, TextIndex, TruthError, StoredResult}
 use Rattle.cell.specs.declared.Shape.{Shape}
 use Rattle.cell.specs.declared.Shape.the-variants.{BLANK, NUMBER, RK, LABELSST, BOOLERR, MULRK, MULBLANK, FORMULA, OTHER}
-use Rattle.cell.specs.Cells.{firstAt, lastAt, sized, columns, multiple, lengthAt, countOf}
+use Rattle.cell.specs.Cells.{fieldOf, partOf, firstAt, lastAt, sized, columns, multiple, lengthAt, countOf}
 
 -- the size of a record that has one size only
 abbrev pub sizeOf : Shape → ℕ
@@ -122,3 +124,40 @@ multiple-below s at z part n k is l =
     let b = sized-below z (6 + part * m) m k (rw is at l) in
     let e : n ≡ m = is ∙ b .0 in
     (columns-below (firstAt s at) (lastAt s at z) k (rw e at l), b .1 ∙ ap (λ (x : ℕ). 6 + x) (mul-comm part m ∙ ap (λ (x : ℕ). x * part) (sym e)))
+
+-- ---- where the cells lie
+-- the parts of a record that has a k-th cell lie in its body, and its k-th column is at most 255 if its first is
+abbrev pub Lies : Shape → List ℕ → ℕ → ℕ → ℕ → Type 0
+Lies h s at z k = (4 + countOf h s at z * partOf (fieldOf h) ≤ z) × (firstAt s at ≤ 255 → firstAt s at + k ≤ 255)
+
+module _ (s : List ℕ) (at z k : ℕ) where
+  one-lies : (e part : ℕ) → 4 + part ≤ e → k < sized z e 1 → (4 + sized z e 1 * part ≤ z) × (firstAt s at ≤ 255 → firstAt s at + k ≤ 255)
+  one-lies e part h l = let b = sized-below z e 1 k l in (rw (b .0) (omega arith), (λ c. omega arith))
+
+  many-lies : (part : ℕ) → k < multiple s at z part → (4 + multiple s at z part * part ≤ z) × (firstAt s at ≤ 255 → firstAt s at + k ≤ 255)
+  many-lies part l = let b = multiple-below s at z part (multiple s at z part) k refl l in (omega arith, (λ c. b .0))
+
+  pub count-lies : (h : Shape) → k < countOf h s at z → Lies h s at z k
+  count-lies BLANK l = one-lies 6 2 (omega arith) l
+  count-lies NUMBER l = one-lies 14 10 (omega arith) l
+  count-lies RK l = one-lies 10 6 (omega arith) l
+  count-lies LABELSST l = one-lies 10 6 (omega arith) l
+  count-lies BOOLERR l = one-lies 8 4 (omega arith) l
+  count-lies MULRK l = many-lies 6 l
+  count-lies MULBLANK l = many-lies 2 l
+  count-lies FORMULA l = let b = formula-below (lengthAt s (at + 8)) z k l in (rw (b .2) (omega arith), (λ c. omega arith))
+  count-lies OTHER l = absurd (omega arith)
+
+pub part-some : (f : Field) → 2 ≤ partOf f
+part-some NoField = omega arith
+part-some Float = omega arith
+part-some RkWord = omega arith
+part-some TextIndex = omega arith
+part-some TruthError = omega arith
+part-some StoredResult = omega arith
+
+-- so a record that has a cell has a row, a column and a format
+pub count-room : (s : List ℕ) (at z k : ℕ) (h : Shape) → k < countOf h s at z → 6 ≤ z
+count-room s at z k h l =
+    let least : 1 * partOf (fieldOf h) ≤ countOf h s at z * partOf (fieldOf h) = mul-le-mul-right (partOf (fieldOf h)) (omega arith) in
+    omega (arith, count-lies s at z k h l .0, part-some (fieldOf h))

@@ -50,22 +50,6 @@ pub enum Found {
     Absent,
 }
 
-pub fn shape_of(kind: u16) -> Shape
-    ensures { λ r. ⌜ r ≡ shapeOf kind ⌝ }
-{
-    match kind {
-        0x0201 => Shape::BLANK,
-        0x0203 => Shape::NUMBER,
-        0x027E => Shape::RK,
-        0x00FD => Shape::LABELSST,
-        0x0205 => Shape::BOOLERR,
-        0x00BD => Shape::MULRK,
-        0x00BE => Shape::MULBLANK,
-        0x0006 => Shape::FORMULA,
-        _ => Shape::OTHER,
-    }
-}
-
 // ---- sizes
 
 // How many columns a multiple record says it has; none where they are out of order or over 255.
@@ -85,7 +69,7 @@ fn columns(s: &[u8], at: usize, size: usize) -> u16
 }
 
 // How many cells a multiple record has, of `part` bytes each; none where its size is wrong.
-fn multiple(s: &[u8], at: usize, size: usize, part: usize) -> u16
+pub fn multiple(s: &[u8], at: usize, size: usize, part: usize) -> u16
     requires { ⌜ (at + 4 + size ≤ length (now s)) × (part ≤ 6) ⌝ }
     ensures { λ r. ⌜ r ≡ multiple (now (s .entry)) at size part ⌝ }
 {
@@ -391,8 +375,8 @@ fn boolerr_cell(s: &[u8], at: usize, size: usize, k: u16) -> Found
     single(s, at, Field::TruthError, q + 2, value, no_tokens())
 }
 
-// The k-th cell of a multiple record, for a caller that knows that it is there.
-pub fn rk_part(s: &[u8], at: usize, k: u16) -> Cell
+// The k-th cell of a multiple record that has it.
+fn rk_part(s: &[u8], at: usize, k: u16) -> Cell
     requires { ⌜ (at + 8 + k * 6 + 6 ≤ length (now s)) × (firstAt (now s) at + k < 65536) ⌝ }
     ensures { λ r. ⌜ r ≡ cellOf (now (s .entry)) Field.RkWord at k ⌝ }
 {
@@ -402,7 +386,7 @@ pub fn rk_part(s: &[u8], at: usize, k: u16) -> Cell
     cell_with(s, at, column, q, Field::RkWord, q + 2, value, no_tokens())
 }
 
-pub fn blank_part(s: &[u8], at: usize, k: u16) -> Cell
+fn blank_part(s: &[u8], at: usize, k: u16) -> Cell
     requires { ⌜ (at + 8 + k * 2 + 2 ≤ length (now s)) × (firstAt (now s) at + k < 65536) ⌝ }
     ensures { λ r. ⌜ r ≡ cellOf (now (s .entry)) Field.NoField at k ⌝ }
 {

@@ -4,7 +4,8 @@ use mathlib.Core.Path.{_≡_, refl, ap, _∙_, subst}
 use mathlib.Core.List.{List, [], _∷_}
 use mathlib.Core.Logic.{_⊎_, inl, inr}
 use native.Mathlib.Omega.{arith}
-use Rattle.walk.specs.Items.{Item, gives, skips, ends, onto, collectF, collect}
+use lib.ListN.{length}
+use Rattle.walk.specs.Items.{Item, gives, skips, ends, onto, collectF, collect, nth}
 use Rattle.record.specs.declared.Header.the-variants.{Record}
 use Rattle.record.specs.Record.{headerAt}
 use Rattle.record.proofs.Laws.{whole}
@@ -58,9 +59,6 @@ module _ (s : List ℕ) where
 
   pub reach-ahead : {x y : ℕ} → Reach s x y → x ≤ y
   reach-ahead q = chain-ahead over-ahead over-one q
-
-  pub reach-between : {x y z : ℕ} → Reach s x y → Reach s x z → y ≤ z → Reach s y z
-  reach-between q r l = chain-between over-ahead over-one q r l
 
   -- ---- the record from a to e
   module _ (a e : ℕ) (at : Over s a e) where
@@ -124,3 +122,21 @@ module _ {S X : Type 0} (step step′ : S → Item S X) (P : S → Type 0) (same
   pub collect-agree : (μ μ′ : S → ℕ) (s : S) → μ s ≡ μ′ s → P s → collect step μ s ≡ collect step′ μ′ s
   unfolding collect
   collect-agree μ μ′ s e p = agreeF (suc (μ s)) s p ∙ ap (λ (n : ℕ). collectF step′ (suc n) s) e
+
+-- ---- the n-th of a list
+pub nth-is : {A B : Type 0} (f : A → B) (d : B) {l : List A} {n : ℕ} {x : A} → Nth l n x → nth l n f d ≡ f x
+unfolding nth
+nth-is f d first = refl
+nth-is f d (next i) = nth-is f d i
+
+pub nth-missing : {A B : Type 0} (f : A → B) (d : B) (l : List A) (n : ℕ) → length l ≤ n → nth l n f d ≡ d
+unfolding nth
+nth-missing f d [] n h = refl
+nth-missing f d (x ∷ l) zero h = absurd (omega arith)
+nth-missing f d (x ∷ l) (suc n) h = nth-missing f d l n (omega arith)
+
+pub nth-either : {A B : Type 0} (f : A → B) (d y : B) (G : Type 0) (l : List A) (n : ℕ) → ((x : A) → Nth l n x → f x ≡ y → G) → (length l ≤ n → d ≡ y → G) → nth l n f d ≡ y → G
+unfolding nth
+nth-either f d y G [] n some none h = none (omega arith) h
+nth-either f d y G (x ∷ l) zero some none h = some x first h
+nth-either f d y G (x ∷ l) (suc n) some none h = nth-either f d y G l n (λ z i. some z (next i)) (λ i. none (omega arith)) h

@@ -1,15 +1,13 @@
 -- Demand 3. Assumes nothing.
-use Prim.Native.Nat.{ℕ, zero, suc, _+_, _/_, _%_, _^_, _≤_, _<_}
+use Prim.Native.Nat.{ℕ, _+_, _/_, _%_, _^_, _<_}
 use mathlib.Core.Path.{_≡_, refl, sym, ap, _∙_, subst}
 use mathlib.Core.List.{List, [], _∷_}
 use mathlib.Core.Logic.{_⊎_, inl, inr, _↔_}
 use mathlib.Core.Bool.{Bool, true, false, not}
 use native.Mathlib.Omega.{arith}
-use lib.Dec.{T, ltb, eqb}
-use lib.Ieee as Ieee
-use lib.Ieee.{binary64, fits}
-use lib.ListN.{length, getD}
-use lib.Seq.{sets, length-sets}
+use lib.Dec.{ltb, eqb}
+use lib.ListN.{length}
+use lib.Seq.{length-sets}
 use borrow.Author.Tests.{le-ltb, ltb-false, leb-false, lt-leb}
 use Rattle.walk.specs.Choice.{pick}
 use Rattle.walk.proofs.Choice.{never, pick-by}
@@ -32,8 +30,8 @@ use Rattle.change.specs.declared.NewValue.the-variants.{Number, Text, Truth, Er
 use Rattle.change.specs.declared.Plan.{Plan}
 use Rattle.change.specs.declared.Plan.the-variants as plan
 use Rattle.change.specs.Change.{putIf, finite, floatPlan, packedPlan, planOf}
-use Rattle.kept.specs.Claims.{Held, Says}
-use Rattle.kept.proofs.Planned.{planned}
+use Rattle.kept.specs.Claims.{Held}
+use Rattle.kept.proofs.Planned.{planned, unpacked}
 use Rattle.sheetlist.specs.Agreement.{Sheet}
 use Rattle.globals.specs.declared.Globals.{Globals}
 use Rattle.globals.specs.Sheets.{sheetsOf}
@@ -42,8 +40,9 @@ use Rattle.workbook.specs.declared.Checked.the-variants.{Right, Wrong}
 use Rattle.workbook.specs.declared.Answer.the-variants.{Passed}
 use Rattle.workbook.specs.Check.{checkedOf, answered, checkOf, onChecked}
 use Rattle.reading.specs.Reading.{startOf, listedOf}
-use Rattle.correction.specs.Correction.{Correction, refuses, writes, cellsAt, onPlan, onCells, correctionOf}
-use Rattle.chain.specs.Chain.{Nth, first, next}
+use Rattle.correction.specs.Correction.{refuses, cellsAt, onPlan, onCells, correctionOf}
+use Rattle.chain.specs.Chain.{Nth}
+use Rattle.chain.proofs.Chain.{nth-is, nth-missing, nth-either}
 use Rattle.upheld.proofs.Granted.{granted, listed-only, field-high}
 use Rattle.upheld.proofs.Upheld.{upheld, sheets-stay}
 use Rattle.reread.proofs.Reading.{reads-replaced}
@@ -157,24 +156,6 @@ settles StoredResult (Text i) unique held = untaken
 settles StoredResult (Truth t) unique held = untaken
 settles StoredResult (Error e) unique held = untaken
 
--- ---- the n-th of a list
-nth-is : {A B : Type 0} (f : A → B) (d : B) {l : List A} {n : ℕ} {x : A} → Nth l n x → nth l n f d ≡ f x
-unfolding nth
-nth-is f d first = refl
-nth-is f d (next i) = nth-is f d i
-
-nth-none : {A B : Type 0} (f : A → B) (d : B) (l : List A) (n : ℕ) → length l ≤ n → nth l n f d ≡ d
-unfolding nth
-nth-none f d [] n h = refl
-nth-none f d (x ∷ l) zero h = absurd (omega arith)
-nth-none f d (x ∷ l) (suc n) h = nth-none f d l n (omega arith)
-
-nth-either : {A B : Type 0} (f : A → B) (d y : B) (G : Type 0) (l : List A) (n : ℕ) → ((x : A) → Nth l n x → f x ≡ y → G) → (length l ≤ n → d ≡ y → G) → nth l n f d ≡ y → G
-unfolding nth
-nth-either f d y G [] n some none h = none (omega arith) h
-nth-either f d y G (x ∷ l) zero some none h = some x first h
-nth-either f d y G (x ∷ l) (suc n) some none h = nth-either f d y G l n (λ z i. some z (next i)) (λ i. none (omega arith)) h
-
 -- ---- the correction
 module _ (s : List ℕ) (n row column : ℕ) (v : NewValue) (held : Held v) where
   abbrev Met : ℕ → ℕ → Type 0
@@ -224,7 +205,7 @@ module _ (s : List ℕ) (n row column : ℕ) (v : NewValue) (held : Held v) wher
   met-refused : (m o : ℕ) → Met m o → correctionOf s n row column v ≡ refuses m o
   unfolding correctionOf
   met-refused m o (checked e) = ap (onChecked refuses (λ (g : Globals). nth (sheetsOf s) n (λ (x : Sheet). onCells v (g .unique) (cellsAt row column (listedOf s x))) (refuses 11 0))) e
-  met-refused m o (no-sheet {g = g} e i) = on-right g e ∙ nth-none (λ (x : Sheet). onCells v (g .unique) (cellsAt row column (listedOf s x))) (refuses 11 0) (sheetsOf s) n i
+  met-refused m o (no-sheet {g = g} e i) = on-right g e ∙ nth-missing (λ (x : Sheet). onCells v (g .unique) (cellsAt row column (listedOf s x))) (refuses 11 0) (sheetsOf s) n i
   met-refused m o (no-cell {g = g} {x = x} e i j) = on-sheet g x e i ∙ ap (onCells v (g .unique)) j
   met-refused m o (many {g = g} {x = x} e i j) = on-sheet g x e i ∙ ap (onCells v (g .unique)) j
   met-refused m o (kind {c = c} {unique = u} i e) = on-only c u i ∙ ap (onPlan c) (settles (c .kind) v u held .kind e)
@@ -234,16 +215,14 @@ pub refused-as-said : RefusedExactly
 unfolding correctionOf
 refused-as-said s n row column v m o held = (λ h. checked-met s n row column v held m o (checkedOf s 0) refl h, met-refused s n row column v held m o)
 
-module _ (s : List ℕ) (n row column : ℕ) (c : Cell) (u : ℕ) (x : Ieee.Float) (i : Only s n row column c u) (packed : c .kind ≡ RkWord) (held : T (fits binary64 x)) where
-  on-packed : correctionOf s n row column (Number x) ≡ onPlan c (packedPlan (packOf (bitsOf x)))
-  on-packed = on-only s n row column (Number x) held c u i ∙ ap (λ (f : Field). onPlan c (planOf f (Number x) u)) packed
-
-  none-means : (k : Packed) → packOf (bitsOf x) ≡ k → onPlan c (packedPlan k) ≡ refuses 18 0 → (w : ℕ) → Means w (bitsOf x) → ⊥
-  none-means (Word w) e h = never (cc)
-  none-means Unpacked e h = refused-exactly (bitsOf x) (bits-of-lt x held) .0 e
+refused-plan : (c : Cell) (p : Plan) → onPlan c p ≡ refuses 18 0 → p ≡ plan.Refused 18 0
+refused-plan c (plan.Put k) h = never (cc)
+refused-plan c (plan.Refused m o) h = let i : m ≡ 18 = cc in let j : o ≡ 0 = cc in rw (i, j) refl
 
 pub packed-as-said : PackedExactly
-packed-as-said s n row column c u x i k held f = (
-  λ h. none-means s n row column c u x i k held (packOf (bitsOf x)) refl (sym (on-packed s n row column c u x i k held) ∙ h),
-  λ none. on-packed s n row column c u x i k held ∙ ap (λ (d : Packed). onPlan c (packedPlan d)) (refused-exactly (bitsOf x) (bits-of-lt x held) .1 none),
-)
+packed-as-said s n row column c u x i packed held f =
+    let asked : correctionOf s n row column (Number x) ≡ onPlan c (planOf RkWord (Number x) u) = on-only s n row column (Number x) held c u i ∙ ap (λ (k : Field). onPlan c (planOf k (Number x) u)) packed in
+    let exactly = unpacked x u held in (
+      λ h. exactly .0 (refused-plan c (planOf RkWord (Number x) u) (sym asked ∙ h)),
+      λ none. asked ∙ ap (onPlan c) (exactly .1 none),
+    )

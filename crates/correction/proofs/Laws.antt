@@ -39,8 +39,8 @@ use Rattle.workbook.specs.Check.{checkedOf, onChecked}
 use Rattle.reading.specs.declared.Place.{Place}
 use Rattle.reading.specs.Cells.{placeAt, listedFrom}
 use Rattle.reading.specs.Reading.{startBy, startOf as sheetStart, listedOf}
-use Rattle.scan.specs.declared.Outside.{Outside}
-use Rattle.scan.specs.declared.Outside.the-variants as outside
+use Rattle.reading.specs.declared.Outside.{Outside}
+use Rattle.reading.specs.declared.Outside.the-variants as outside
 use Rattle.scan.specs.declared.Scanned.{Scanned}
 use Rattle.scan.specs.declared.Scanned.the-variants as scanned
 use Rattle.scan.specs.Scan.{Row, Passed, Scan}

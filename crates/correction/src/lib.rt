@@ -9,7 +9,7 @@ ghost use Rattle.correction.specs.Parts.{targetOf, withOne, inRow, field
 use change::Answer;
 use change::NewValue;
 use listing::Sought;
-use scan::Outside;
+use reading::Outside;
 use scan::Scanned;
 use value::Field;
 use workbook::Checked;

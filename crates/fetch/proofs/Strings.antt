@@ -1,8 +1,8 @@
 -- The strings one after the other: the laws of a step, and that the steps give the strings of the table. Assumes nothing.
 use Prim.Native.Nat.{ℕ, zero, suc, _+_, _-_, _≤_, _<_}
-use mathlib.Core.Path.{_≡_, refl, sym, ap, _∙_, subst}
+use mathlib.Core.Path.{_≡_, refl, sym, ap, _∙_}
 use mathlib.Core.List.{List, [], _∷_, map}
-use mathlib.Core.Logic.{_⊎_, inl, inr}
+use mathlib.Core.Logic.{inl, inr}
 use native.Mathlib.Omega.{arith}
 use lib.ListN.{length}
 use lib.Dec.{ltb}
@@ -17,12 +17,12 @@ use Rattle.segments.specs.Parts.{Inside, ends, moved, Passes}
 use Rattle.segments.proofs.Local.{refused-not}
 use Rattle.strings.specs.declared.Fetched.{Fetched}
 use Rattle.strings.specs.declared.Fetched.the-variants as fetched
-use Rattle.strings.specs.Table.{stringAt, unitsAt, nextPlace, strings, first, nowhere, tableOf, placesOf, stringsOf, fetchedOf, bufferOf}
+use Rattle.strings.specs.Table.{stringAt, unitsAt, nextPlace, strings, first, nowhere, tableOf, fetchedOf, bufferOf}
 use Rattle.strings.specs.Parts.{nextString}
-use Rattle.strings.proofs.Local.{Right, right}
+use Rattle.strings.proofs.Local.{right}
 use Rattle.strings.proofs.Laws.{next-inside, strings-count}
 use Rattle.globals.specs.declared.Globals.{Globals}
-use Rattle.globals.proofs.Table.{Stands, TableTold, table-told}
+use Rattle.globals.proofs.Table.{TableTold, table-told}
 use Rattle.workbook.specs.declared.Checked.the-variants.{Right as Passed}
 use Rattle.workbook.specs.Check.{checkedOf}
 use Rattle.reading.specs.Reading.{stringsAt}

@@ -1,5 +1,5 @@
 -- The cells from a part on: how many, where, and which bytes they read. Assumes nothing.
-use Prim.Native.Nat.{ℕ, zero, suc, _+_, _-_, _*_, _≤_, _<_}
+use Prim.Native.Nat.{ℕ, zero, suc, _+_, _*_, _≤_, _<_}
 use mathlib.Core.Path.{_≡_, refl, sym, ap, ap₂, _∙_}
 use mathlib.Core.List.{List, _∷_}
 use mathlib.Core.Bool.{Bool, true, false}
@@ -25,14 +25,6 @@ field-in RkWord = omega arith
 field-in TextIndex = omega arith
 field-in TruthError = omega arith
 field-in StoredResult = omega arith
-
-pub part-some : (f : Field) → 2 ≤ partOf f
-part-some NoField = omega arith
-part-some Float = omega arith
-part-some RkWord = omega arith
-part-some TextIndex = omega arith
-part-some TruthError = omega arith
-part-some StoredResult = omega arith
 
 both-first : (t r : Bool) → pick t r false ≡ true → t ≡ true
 unfolding pick

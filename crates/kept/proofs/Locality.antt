@@ -18,8 +18,8 @@ use Rattle.cell.specs.declared.Judged.the-variants.{Passed, Refused, Other}
 use Rattle.cell.specs.declared.Found.the-variants.{There, Absent}
 use Rattle.cell.specs.Cells.{isCell, fieldOf, partOf, rowAt, firstAt, lastAt, sized, columns, multiple, lengthAt, countOf, fieldAt, cellFrom, cellsFrom, cellsOf, cellOf, foundOf, fieldsFit, judged, judgeOf}
 use Rattle.cell.proofs.Sizes.{multiple-short, formula-none}
-use Rattle.kept.proofs.Fields.{part-some, field-same, cell-same, cells-same, fits-same}
-use Rattle.kept.proofs.Records.{count-lies}
+use Rattle.kept.proofs.Fields.{field-same, cell-same, cells-same, fits-same}
+use Rattle.cell.proofs.Sizes.{count-lies, part-some}
 
 module _ (s s′ : List ℕ) (at z : ℕ) where
   pub row-same : Same s s′ (at + 4) (at + 6) → rowAt s′ at ≡ rowAt s at

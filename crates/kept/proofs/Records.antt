@@ -1,6 +1,6 @@
 -- A whole record: what it is to pass, where its cells lie, and which bytes it reads. Assumes nothing.
 use Prim.Native.Nat.{ℕ, suc, _+_, _-_, _*_, _≤_, _<_}
-use mathlib.Core.Path.{_≡_, refl, sym, ap, ap₂, _∙_}
+use mathlib.Core.Path.{_≡_, refl, sym, ap, _∙_}
 use mathlib.Core.List.{List, _∷_}
 use mathlib.Core.Bool.{Bool, true, false}
 use native.Mathlib.Omega.{arith}
@@ -9,42 +9,17 @@ use lib.ListN.{length, getD, drop}
 use lib.Dec.{ltb, eqb}
 use borrow.Author.Tests.{eqb-false, ltb-true, ltb-false}
 use Rattle.walk.specs.Choice.{pick}
-use Rattle.walk.proofs.Choice.{never, pick-ne, pick-lt, pick-nlt, pick-true}
+use Rattle.walk.proofs.Choice.{never, pick-ne, pick-nlt, pick-true}
 use Rattle.value.specs.declared.Field.{Field}
 use Rattle.value.specs.Value.{widthOf, indexFits}
 use Rattle.cell.specs.declared.Shape.{Shape}
-use Rattle.cell.specs.declared.Shape.the-variants.{BLANK, NUMBER, RK, LABELSST, BOOLERR, MULRK, MULBLANK, FORMULA, OTHER}
 use Rattle.cell.specs.declared.Cell.{Cell}
 use Rattle.cell.specs.declared.Judged.the-variants.{Passed, Refused, Other}
-use Rattle.cell.specs.declared.Found.{Found}
 use Rattle.cell.specs.declared.Found.the-variants.{There, Absent}
-use Rattle.cell.specs.Cells.{isCell, fieldOf, partOf, rowAt, firstAt, sized, multiple, lengthAt, countOf, fieldAt, cellFrom, cellsOf, cellOf, foundOf, fieldsFit, judged, judgeOf}
-use Rattle.cell.proofs.Sizes.{sized-below, multiple-below, formula-below}
+use Rattle.cell.specs.Cells.{isCell, fieldOf, partOf, rowAt, firstAt, countOf, fieldAt, cellFrom, cellsOf, cellOf, foundOf, fieldsFit, judged, judgeOf}
+use Rattle.cell.proofs.Sizes.{Lies, count-lies}
 use Rattle.kept.specs.Claims.{Right, placeOf}
 use Rattle.kept.proofs.Fields.{field-in, cells-length, cells-drop, cells-nth}
-
--- ---- where the cells lie
--- the parts of a record that has a k-th cell lie in its body, and its k-th column is at most 255 if its first is
-abbrev Lies : Shape → List ℕ → ℕ → ℕ → ℕ → Type 0
-Lies h s at z k = (4 + countOf h s at z * partOf (fieldOf h) ≤ z) × (firstAt s at ≤ 255 → firstAt s at + k ≤ 255)
-
-module _ (s : List ℕ) (at z k : ℕ) where
-  one-lies : (e part : ℕ) → 4 + part ≤ e → k < sized z e 1 → (4 + sized z e 1 * part ≤ z) × (firstAt s at ≤ 255 → firstAt s at + k ≤ 255)
-  one-lies e part h l = let b = sized-below z e 1 k l in (rw (b .0) (omega arith), (λ c. omega arith))
-
-  many-lies : (part : ℕ) → k < multiple s at z part → (4 + multiple s at z part * part ≤ z) × (firstAt s at ≤ 255 → firstAt s at + k ≤ 255)
-  many-lies part l = let b = multiple-below s at z part (multiple s at z part) k refl l in (omega arith, (λ c. b .0))
-
-  pub count-lies : (h : Shape) → k < countOf h s at z → Lies h s at z k
-  count-lies BLANK l = one-lies 6 2 (omega arith) l
-  count-lies NUMBER l = one-lies 14 10 (omega arith) l
-  count-lies RK l = one-lies 10 6 (omega arith) l
-  count-lies LABELSST l = one-lies 10 6 (omega arith) l
-  count-lies BOOLERR l = one-lies 8 4 (omega arith) l
-  count-lies MULRK l = many-lies 6 l
-  count-lies MULBLANK l = many-lies 2 l
-  count-lies FORMULA l = let b = formula-below (lengthAt s (at + 8)) z k l in (rw (b .2) (omega arith), (λ c. omega arith))
-  count-lies OTHER l = absurd (omega arith)
 
 -- ---- a record passes with n cells exactly where it is right
 module _ (s : List ℕ) (h : Shape) (at z u n : ℕ) where
@@ -141,48 +116,3 @@ module _ (s : List ℕ) (h : Shape) (at z k : ℕ) where
   pub found-absent : foundOf s h at z k ≡ Absent → length (cellsOf s h at z) ≤ k
   unfolding foundOf cellsOf
   found-absent e = rw (cells-length (fieldOf h) s (rowAt s at) (countOf h s at z) (firstAt s at) (at + 8)) (absent-by (ltb k (countOf h s at z)) refl e)
-
--- ---- a record of more than one cell: each lies in it, and its column is at most 255
-one-cell : {A : Type 0} (z e : ℕ) → 1 < sized z e 1 → A
-one-cell z e l = absurd (let b = sized-below z e 1 1 l in omega arith)
-
-module _ (s : List ℕ) (at z j : ℕ) where
-  pub columns-low : (h : Shape) → 1 < countOf h s at z → j < countOf h s at z → firstAt s at + j ≤ 255
-  columns-low BLANK l i = one-cell z 6 l
-  columns-low NUMBER l i = one-cell z 14 l
-  columns-low RK l i = one-cell z 10 l
-  columns-low LABELSST l i = one-cell z 10 l
-  columns-low BOOLERR l i = one-cell z 8 l
-  columns-low MULRK l i = multiple-below s at z 6 (multiple s at z 6) j refl i .0
-  columns-low MULBLANK l i = multiple-below s at z 2 (multiple s at z 2) j refl i .0
-  columns-low FORMULA l i = absurd (let b = formula-below (lengthAt s (at + 8)) z 1 l in omega arith)
-  columns-low OTHER l i = absurd (omega arith)
-
-  -- as a caller that was given the k-th cell reads those that are left; f is the kind of field that it told
-  module _ (h : Shape) (k : ℕ) (r : Found) (c : Cell) (left : ℕ) (is : r ≡ foundOf s h at z k) (there : r ≡ There c left) (later : k < j) (last : j ≤ k + left) where
-    counted : (k < countOf h s at z) × (c ≡ cellOf s (fieldOf h) at k) × (left ≡ countOf h s at z - (k + 1))
-    unfolding foundOf
-    counted = found-by s h at z k (ltb k (countOf h s at z)) refl c left (sym is ∙ there)
-
-    within : j < countOf h s at z
-    within = let b = counted in omega arith
-
-    pub next-column : firstAt s at + j < 65536
-    next-column = let b = counted in omega (arith, columns-low h (omega (arith, within)) within)
-
-    module _ (f : Field) (told : f ≡ c .kind) where
-      kind-is : f ≡ fieldOf h
-      unfolding cellOf cellFrom
-      kind-is = told ∙ ap (λ (x : Cell). x .kind) (counted .1)
-
-      pub next-room : (len : ℕ) → at + 4 + z ≤ len → at + 8 + j * partOf f + partOf f ≤ len
-      next-room len body =
-          let inside : j * partOf (fieldOf h) + partOf (fieldOf h) ≤ countOf h s at z * partOf (fieldOf h) = rw suc-mul at (mul-le-mul-right (partOf (fieldOf h)) within) in
-          rw kind-is (omega (arith, count-lies s at z j h within .0))
-
-      -- the j-th cell, as a part of this kind is read, is the j-th that is found
-      pub next-found : (x : Cell) → x ≡ cellOf s f at j → There x (k + left - j) ≡ foundOf s h at z j
-      unfolding foundOf
-      next-found x e =
-          let b = counted in
-          pick-lt _ _ _ j (countOf h s at z) within (ap₂ There (e ∙ ap (λ (g : Field). cellOf s g at j) kind-is) (omega (arith, within)))

@@ -29,6 +29,8 @@ use Rattle.workbook.specs.declared.Checked.{Checked}
 use Rattle.workbook.specs.declared.Checked.the-variants.{Right, Wrong}
 use Rattle.workbook.specs.Check.{checkedOf, onChecked}
 use Rattle.reading.specs.declared.Place.{Place}
+use Rattle.reading.specs.declared.Outside.{Outside}
+use Rattle.reading.specs.Parts.{outsideItem}
 use Rattle.reading.specs.Cells.{placeAt, nextPart, otherItem, onFound, recordItem, onHeader, cellItem, remaining, listedFrom}
 use Rattle.reading.specs.Reading.{onName, nameAt, widthAt, typeAt, startBy, startOf, listedOf, rowsOf}
 use Rattle.reading.proofs.Laws.{count-small, found-there, cell-here, item-near, listed-step}
@@ -63,6 +65,11 @@ module _ (v : Place) (t e : ℕ) (c : Cell) (left : ℕ) where
   pub more-parts : (left ≡ 0 → ⊥) → gives c (record { at = v .at; part = v .part + 1; level = v .level }) ≡ onFound v t e (There c left)
   unfolding nextPart
   more-parts h = ap (gives c) (pick-ne _ _ _ _ _ h refl)
+
+-- past a record that has no cell here, it is the depth alone that counts
+pub by-outside : (v : Place) (t e : ℕ) (y : Item Place Cell) {r x : Outside} → outsideItem r ≡ otherItem (placeAt 0 (v .level)) t e → r ≡ x → y ≡ outsideItem x → y ≡ otherItem v t e
+unfolding otherItem placeAt
+by-outside v t e y i j g = g ∙ ap outsideItem (sym j) ∙ i
 
 pub part-fits : (s : List ℕ) (v : Place) (t z left : ℕ) (c : Cell) {r : Found} → r ≡ foundOf s (shapeOf t) (v .at) z (v .part) → r ≡ There c left → v .part + 1 < 65536
 part-fits s v t z left c i j =
@@ -110,6 +117,19 @@ module _ (s : List ℕ) where
       next-end h = sym (inv ∙ run-stop go listed.End (remaining s) falls (by-step _ h))
 
 pub ruleset next-laws = (less-skip, next-skip, next-cell, next-end)
+
+-- from a record on that has no cell here
+module _ (s : List ℕ) (v : Place) where
+  pub next-past : (w : Place) → cellItem s v ≡ skips w → nextOf s v ≡ nextOf s w
+  unfolding nextOf
+  next-past w h = run-more (go s) listed.End (remaining s) (falls s) (ap onItem h)
+
+  pub next-over : cellItem s v ≡ ends → nextOf s v ≡ listed.End
+  unfolding nextOf
+  next-over h = run-stop (go s) listed.End (remaining s) (falls s) (ap onItem h)
+
+  pub past-nearer : (w : Place) → cellItem s v ≡ skips w → remaining s w < remaining s v
+  past-nearer w h = falls s v w (ap onItem h)
 
 -- from a cell of a record on, that cell is the next one
 module _ (s : List ℕ) (at t z e : ℕ) (whole-record : headerAt s at ≡ Record t z e) (k : ℕ) (l : k < countOf (shapeOf t) s at z) where

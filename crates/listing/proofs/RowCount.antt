@@ -15,13 +15,11 @@ use Rattle.record.specs.declared.Header.the-variants.{Record, Cut, End}
 use Rattle.record.specs.Record.{headerAt}
 use Rattle.record.proofs.Laws.{whole}
 use Rattle.cell.specs.declared.Shape.{Shape}
-use Rattle.cell.specs.declared.Shape.the-variants.{BLANK, NUMBER, RK, LABELSST, BOOLERR, MULRK, MULBLANK, FORMULA, OTHER}
-use Rattle.cell.proofs.Sizes.{sized-below, formula-below, multiple-below}
+use Rattle.cell.proofs.Sizes.{count-room}
 use Rattle.cell.specs.declared.Cell.{Cell}
-use Rattle.cell.specs.declared.Found.{Found}
-use Rattle.cell.specs.Cells.{shapeOf, rowAt, multiple, lengthAt, countOf, cellFrom, cellOf, foundOf}
+use Rattle.cell.specs.Cells.{shapeOf, rowAt, countOf, cellFrom, cellOf}
 use Rattle.reading.specs.declared.Place.{Place}
-use Rattle.reading.specs.Cells.{placeAt, nextPart, otherItem, onFound, recordItem, onHeader, cellItem, remaining, listedFrom}
+use Rattle.reading.specs.Cells.{placeAt, nextPart, otherItem, onHeader, cellItem, remaining, listedFrom}
 use Rattle.reading.specs.Reading.{rowsOf}
 use Rattle.reading.proofs.Laws.{found-absent, cell-here, item-near, listed-step}
 use Rattle.listing.specs.declared.Step.{Step}
@@ -104,20 +102,8 @@ pub rows-past : (s : List ℕ) (v : Place) (t z e : ℕ) → headerAt s (v .at) 
 unfolding remaining placeAt
 rows-past s v t z e head w i = let r = whole s (v .at) t z e head in rw i (omega arith)
 
--- a record that has a cell has a row
-count-room : (h : Shape) (s : List ℕ) (at z k : ℕ) → k < countOf h s at z → 6 ≤ z
-count-room BLANK s at z k l = let b = sized-below z 6 1 k l in omega arith
-count-room NUMBER s at z k l = let b = sized-below z 14 1 k l in omega arith
-count-room RK s at z k l = let b = sized-below z 10 1 k l in omega arith
-count-room LABELSST s at z k l = let b = sized-below z 10 1 k l in omega arith
-count-room BOOLERR s at z k l = let b = sized-below z 8 1 k l in omega arith
-count-room MULRK s at z k l = let b = multiple-below s at z 6 (multiple s at z 6) k refl l in omega arith
-count-room MULBLANK s at z k l = let b = multiple-below s at z 2 (multiple s at z 2) k refl l in omega arith
-count-room FORMULA s at z k l = let b = formula-below (lengthAt s (at + 8)) z k l in omega arith
-count-room OTHER s at z k l = absurd (omega arith)
-
 pub row-within : (s : List ℕ) (h : Shape) (at t z e n k : ℕ) → headerAt s at ≡ Record t z e → n ≡ countOf h s at z → k < n → at + 4 + 2 ≤ length s
-row-within s h at t z e n k head is l = let w = whole s at t z e head in let r = count-room h s at z k (omega arith) in omega arith
+row-within s h at t z e n k head is l = let w = whole s at t z e head in let r = count-room s at z k h (omega arith) in omega arith
 
 pub head-is : (s : List ℕ) (at t z e : ℕ) {r : Header} → r ≡ headerAt s at → r ≡ Record t z e → headerAt s at ≡ Record t z e
 head-is s at t z e is h = sym is ∙ h

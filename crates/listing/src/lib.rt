@@ -12,6 +12,7 @@ ghost use Rattle.listing.specs.Parts.{itemOf, foundSheet, SoughtWithin, 
 use cell::Cell;
 use cell::Found;
 use globals::Bound;
+use reading::Outside;
 use reading::Place;
 use record::Header;
 use workbook::Checked;
@@ -91,20 +92,10 @@ fn place_at(at: usize, level: u8) -> Place
 fn other_item(v: Place, id: u16, end: usize) -> Step
     ensures { λ r. ⌜ itemOf r ≡ otherItem v id end ⌝ }
 {
-    let level = v.level;
-    if id == 0x0809 {
-        if level < 3 {
-            return Step::Skips(place_at(end, level + 1));
-        }
-        return Step::Ends;
+    match reading::past_record(id, v.level, end) {
+        Outside::Next { at, level } => Step::Skips(place_at(at, level)),
+        Outside::End => Step::Ends,
     }
-    if id == 0x000A {
-        if level == 0 {
-            return Step::Ends;
-        }
-        return Step::Skips(place_at(end, level - 1));
-    }
-    Step::Skips(place_at(end, level))
 }
 
 fn record_item(s: &[u8], v: Place, id: u16, size: usize, end: usize) -> Step

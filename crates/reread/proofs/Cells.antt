@@ -26,7 +26,8 @@ use Rattle.reread.specs.Replaced.{withValue}
 use Rattle.reread.specs.Parts.{fieldFrom, Corrected, written, ListedTo}
 use Rattle.reread.proofs.Fields.{places-differ, same-record}
 use Rattle.reread.proofs.Records.{Stands, kept-item}
-use Rattle.reread.proofs.Found.{listed-here, listed-field, sheet-start, listed-none}
+use Rattle.upheld.proofs.Granted.{listed-here, listed-field}
+use Rattle.reread.proofs.Found.{sheet-start, listed-none}
 use Rattle.reread.proofs.Lists.{map-every, map-map, collect-map}
 use Rattle.reread.proofs.Items.{written-here, written-other, field-apart, item-written, tokens-written}
 

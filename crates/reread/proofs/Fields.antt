@@ -18,7 +18,7 @@ use Rattle.value.specs.declared.CellValue.{CellValue}
 use Rattle.cell.specs.Cells.{shapeOf, fieldOf, partOf, startOf, countOf}
 use Rattle.kept.specs.Claims.{placeOf}
 use Rattle.kept.proofs.Fields.{field-in}
-use Rattle.kept.proofs.Records.{count-lies}
+use Rattle.cell.proofs.Sizes.{count-lies}
 use Rattle.chain.specs.Chain.{Beside}
 use Rattle.upheld.proofs.Beside.{beside-head}
 use Rattle.reread.specs.Parts.{fieldFrom, fieldTo, Corrected}

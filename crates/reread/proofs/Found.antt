@@ -3,7 +3,6 @@ use Prim.Native.Nat.{ℕ, _+_, _≤_, _<_}
 use mathlib.Core.Path.{_≡_, refl, sym, ap, ap₂, _∙_, subst}
 use mathlib.Core.List.{List, [], _∷_}
 use mathlib.Core.Bool.{Bool, true, false}
-use mathlib.Core.Logic.{_⊎_, inl, inr}
 use native.Mathlib.Omega.{arith}
 use lib.ListN.{length, getD}
 use lib.Seq.{sets, length-sets}
@@ -24,7 +23,6 @@ use Rattle.change.specs.declared.NewValue.{NewValue}
 use Rattle.change.specs.declared.Plan.the-variants as plan
 use Rattle.change.specs.Change.{planOf, newOf}
 use Rattle.kept.specs.Claims.{Held}
-use Rattle.kept.proofs.Records.{cell-place}
 use Rattle.kept.proofs.Planned.{planned}
 use Rattle.substream.specs.declared.Ended.the-variants.{At}
 use Rattle.substream.specs.Substream.{pastParent, substreamIn}
@@ -35,7 +33,7 @@ use Rattle.reading.specs.declared.Place.{Place}
 use Rattle.reading.specs.Cells as cells
 use Rattle.reading.specs.Cells.{placeAt, cellItem, listedFrom}
 use Rattle.reading.specs.Reading.{startBy, listedOf}
-use Rattle.reading.proofs.Laws.{Here, found-there, listed-step}
+use Rattle.reading.proofs.Laws.{listed-step}
 use Rattle.correction.specs.Correction.{writes, cellsAt, streamAfter}
 use Rattle.chain.specs.Chain.{Reach, Every}
 use Rattle.chain.specs.Tops.{SheetStands}
@@ -44,23 +42,17 @@ use Rattle.chain.proofs.Walks.{globals-reach}
 use Rattle.chain.proofs.Tops.{opening, tops-reach}
 use Rattle.chain.proofs.Sheets.{passing, sheets-stand}
 use Rattle.upheld.specs.Granted.{Granted, Listed}
-use Rattle.upheld.proofs.Granted.{every-at}
+use Rattle.upheld.proofs.Granted.{every-at, listed-here, listed-field, listed-kind}
 use Rattle.reread.specs.Parts.{fieldFrom, Corrected, addressed, sheet, ListedTo}
 use Rattle.reread.proofs.Fields.{field-inside, field-ends}
 use Rattle.reread.proofs.Records.{entered, Stands, listed-inside}
 
 -- ---- a listed cell: its value field lies in its record, which lies past where the list begins
 module _ {s : List ℕ} {from : ℕ} {c : Cell} (l : Listed s from c) where
-  pub listed-here : Here s (shapeOf (l .type)) (l .at) (l .size) (l .part) c (l .left)
-  listed-here = found-there s (shapeOf (l .type)) (l .at) (l .size) (l .part) c (l .left) (l .found)
-
-  pub listed-field : c .field ≡ fieldFrom (l .type) (l .at) (l .part)
-  listed-field = ap (λ (x : Cell). x .field) (listed-here .cell) ∙ cell-place s (fieldOf (shapeOf (l .type))) (l .at) (l .part) .0
-
   pub field-within : (from ≤ c .field) × (c .field < l .end)
   field-within =
-      let i = field-inside s (l .at) (l .type) (l .size) (l .end) (l .header) (l .part) (listed-here .below) in
-      let j = listed-field in
+      let i = field-inside s (l .at) (l .type) (l .size) (l .end) (l .header) (l .part) (listed-here l .below) in
+      let j = listed-field l in
       let k = reach-ahead s (l .reached) in
       omega arith
 
@@ -139,7 +131,7 @@ module _ {s : List ℕ} {n row column : ℕ} {v : NewValue} {f : Field} {p b : �
   record-of = found .listed
 
   kind-is : f ≡ fieldOf (shapeOf (record-of .type))
-  kind-is = sym (r .kind) ∙ ap (λ (x : Cell). x .kind) (listed-here record-of .cell) ∙ cell-place s (fieldOf (shapeOf (record-of .type))) (record-of .at) (record-of .part) .1
+  kind-is = sym (r .kind) ∙ listed-kind record-of
 
   pub field-is : p ≡ fieldFrom (record-of .type) (record-of .at) (record-of .part)
   field-is = sym (r .field) ∙ listed-field record-of

@@ -1,51 +1,28 @@
 -- The laws of a scan, with what a call gave as the proofs have it. Assumes nothing.
-use Prim.Native.Nat.{ℕ, _+_, _-_, _^_, _≤_, _<_}
+use Prim.Native.Nat.{ℕ, _+_, _^_, _≤_, _<_}
 use mathlib.Core.Path.{_≡_, refl, sym, ap, _∙_, subst}
-use mathlib.Core.List.{List, [], _++_}
-use mathlib.Core.Bool.{Bool, true, false}
+use mathlib.Core.List.{List}
 use native.Mathlib.Omega.{arith}
 use lib.ListN.{length}
-use lib.Dec.{ltb, leb}
-use borrow.Author.Tests.{leb-true, ltb-true, ltb-false}
-use Rattle.walk.specs.Choice.{pick}
-use Rattle.walk.proofs.Choice.{pick-by, pick-any, pick-eq, pick-ne}
+use Rattle.walk.proofs.Choice.{pick-any, pick-eq, pick-ne}
 use Rattle.walk.specs.Items.{Item, gives, skips, ends, onto}
 use Rattle.record.specs.declared.Header.{Header}
 use Rattle.record.specs.declared.Header.the-variants.{Record, Cut, End}
 use Rattle.record.specs.Record.{headerAt}
 use Rattle.record.proofs.Laws.{Whole, whole}
-use Rattle.cell.specs.declared.Shape.{Shape}
-use Rattle.cell.specs.declared.Shape.the-variants.{BLANK, NUMBER, RK, LABELSST, BOOLERR, MULRK, MULBLANK, FORMULA, OTHER}
 use Rattle.cell.specs.declared.Cell.{Cell}
-use Rattle.cell.specs.Cells.{shapeOf, rowAt, firstAt, sized, multiple, lengthAt, countOf, cellsOf, foundOf}
-use Rattle.cell.proofs.Sizes.{sized-below, multiple-below}
+use Rattle.cell.specs.Cells.{shapeOf, rowAt, firstAt, countOf}
+use Rattle.cell.proofs.Sizes.{count-room}
 use Rattle.reading.specs.declared.Place.{Place}
+use Rattle.reading.specs.Parts.{outsideItem}
 use Rattle.reading.specs.Cells.{placeAt, otherItem, onFound, recordItem, onHeader, cellItem, listedFrom}
 use Rattle.reading.proofs.Laws.{count-small, found-absent, listed-step, record-cells}
-use Rattle.scan.specs.declared.Outside.{Outside}
-use Rattle.scan.specs.declared.Outside.the-variants as outside
-use Rattle.scan.specs.declared.Scanned.{Scanned}
+use Rattle.reading.specs.declared.Outside.{Outside}
+use Rattle.reading.specs.declared.Outside.the-variants as outside
 use Rattle.scan.specs.declared.Scanned.the-variants as scanned
-use Rattle.scan.specs.Scan.{outsideItem, Row, Passed, Scan}
+use Rattle.scan.specs.Scan.{Passed, Scan}
 
 -- ---- a record with cells has its row and first column
-multiple-size : (s : List ℕ) (at z part : ℕ) → 0 < multiple s at z part → 6 ≤ z
-multiple-size s at z part l = let m = multiple-below s at z part (multiple s at z part) 0 refl l in omega arith
-
-count-size : (h : Shape) (s : List ℕ) (at z : ℕ) → 0 < countOf h s at z → 4 ≤ z
-count-size BLANK s at z l = let m = sized-below z 6 1 0 l in omega arith
-count-size NUMBER s at z l = let m = sized-below z 14 1 0 l in omega arith
-count-size RK s at z l = let m = sized-below z 10 1 0 l in omega arith
-count-size LABELSST s at z l = let m = sized-below z 10 1 0 l in omega arith
-count-size BOOLERR s at z l = let m = sized-below z 8 1 0 l in omega arith
-count-size MULRK s at z l = let m = multiple-size s at z 6 l in omega arith
-count-size MULBLANK s at z l = let m = multiple-size s at z 2 l in omega arith
-count-size FORMULA s at z l =
-    pick-by (λ (n : ℕ). 0 < n → 4 ≤ z) (leb (22 + lengthAt s (at + 8)) z)
-    (λ h _. let m = leb-true (22 + lengthAt s (at + 8)) z h in omega arith)
-    (λ _ m. absurd (omega arith)) l
-count-size OTHER s at z l = absurd (omega arith)
-
 module _ (s : List ℕ) (at id z e n : ℕ) {r : Header} (is : r ≡ headerAt s at) (h : r ≡ Record id z e) (count : n ≡ countOf (shapeOf id) s at z) (some : n ≡ 0 → ⊥) where
   w : Whole s at id z e
   w = whole s at id z e (sym is ∙ h)
@@ -54,10 +31,10 @@ module _ (s : List ℕ) (at id z e n : ℕ) {r : Header} (is : r ≡ headerAt s 
   there = omega arith
 
   pub first-room : at + 6 + 2 ≤ length s
-  first-room = let x = w in let y = count-size (shapeOf id) s at z there in omega arith
+  first-room = let x = w in let y = count-room s at z 0 (shapeOf id) there in omega arith
 
   pub row-room : at + 4 + 2 ≤ length s
-  row-room = let x = w in let y = count-size (shapeOf id) s at z there in omega arith
+  row-room = let x = w in let y = count-room s at z 0 (shapeOf id) there in omega arith
 
   pub row-fits : length s < 2 ^ 64 → at + 4 < 2 ^ 64
   row-fits l = let x = row-room in omega arith

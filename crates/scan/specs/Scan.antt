@@ -3,21 +3,14 @@ use Prim.Native.Nat.{ℕ, _≤_, _<_}
 use mathlib.Core.Path.{_≡_}
 use mathlib.Core.List.{List, [], _++_}
 use lib.ListN.{length}
-use Rattle.walk.specs.Items.{Item, skips, ends}
 use Rattle.record.specs.declared.Header.the-variants.{Record}
 use Rattle.record.specs.Record.{headerAt}
-use Rattle.cell.specs.declared.Cell.{Cell}
 use Rattle.cell.specs.Cells.{shapeOf, rowAt, firstAt, countOf, cellsOf}
-use Rattle.reading.specs.declared.Place.{Place}
 use Rattle.reading.specs.Cells.{placeAt, listedFrom}
-use Rattle.scan.specs.declared.Outside.{Outside}
-use Rattle.scan.specs.declared.Outside.the-variants as outside
+use Rattle.reading.specs.declared.Outside.{Outside}
+use Rattle.reading.specs.declared.Outside.the-variants as outside
 use Rattle.scan.specs.declared.Scanned.{Scanned}
 use Rattle.scan.specs.declared.Scanned.the-variants as scanned
-
-abbrev pub outsideItem : Outside → Item Place Cell
-outsideItem (outside.Next e l) = skips (placeAt e l)
-outsideItem outside.End = ends
 
 -- the cells of the record, which come first in the list
 pub record Row (s : List ℕ) (at id row first n next : ℕ) : Type 0 where

@@ -1,14 +1,7 @@
 // The cell records of a sheet, one after the other: for those who need the addresses of its cells and no values.
-ghost use mathlib.Core.Path.{_≡_};
-ghost use Rattle.reading.specs.Cells.{placeAt, otherItem};
-ghost use Rattle.scan.specs.Scan.{outsideItem, Scan};
+ghost use Rattle.scan.specs.Scan.{Scan};
+use reading::Outside;
 use record::Header;
-
-// A record that holds no cell of the sheet: on from its end, inside so many substreams, or the end of the list.
-pub enum Outside {
-    Next { at: usize, level: u8 },
-    End,
-}
 
 // The record at a place: its cells, which stand in one row from the first column on; or none.
 pub enum Scanned {
@@ -22,30 +15,6 @@ pub enum Scanned {
     None(Outside),
 }
 
-fn past_record(id: u16, level: u8, end: usize) -> Outside
-    ensures { λ r. ⌜ outsideItem r ≡ otherItem (placeAt 0 level) id end ⌝ }
-{
-    if id == 0x0809 {
-        if level < 3 {
-            return Outside::Next {
-                at: end,
-                level: level + 1,
-            };
-        }
-        return Outside::End;
-    }
-    if id == 0x000A {
-        if level == 0 {
-            return Outside::End;
-        }
-        return Outside::Next {
-            at: end,
-            level: level - 1,
-        };
-    }
-    Outside::Next { at: end, level }
-}
-
 // The record at a place of a sheet's listing.
 pub fn scan(s: &[u8], at: usize, level: u8) -> Scanned
     ensures { λ r. ⌜ Scan (now (s .entry)) at level r ⌝ }
@@ -57,11 +26,11 @@ pub fn scan(s: &[u8], at: usize, level: u8) -> Scanned
             end,
         } => {
             if level != 0 {
-                return Scanned::None(past_record(id, level, end));
+                return Scanned::None(reading::past_record(id, level, end));
             }
             let count = cell::cell_count(s, at, id, size);
             if count == 0 {
-                return Scanned::None(past_record(id, level, end));
+                return Scanned::None(reading::past_record(id, level, end));
             }
             Scanned::Cells {
                 id,

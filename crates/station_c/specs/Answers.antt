@@ -1,6 +1,6 @@
 -- The answers as C sees them: the refusal's number, 0 where there is none, its offset, and what is answered; what isn't is 0.
 use Prim.Native.Nat.{ℕ}
-use mathlib.Core.Bool.{Bool, true, false}
+use mathlib.Core.Bool.{true, false}
 use mathlib.Core.List.{List}
 use lib.Dec.{eqb}
 use lib.Ieee.{Float}
@@ -32,6 +32,8 @@ use Rattle.station_c.specs.declared.Units.{Units}
 use Rattle.station_c.specs.declared.SharedString.{SharedString}
 use Rattle.station_c.specs.declared.Sheet.{Sheet}
 use Rattle.station_c.specs.declared.Cells.{Cells}
+use Rattle.station_c.specs.declared.Filled.{Filled}
+use Rattle.batch.specs.Batch.{Batch}
 
 -- how many sheets and strings; the sheet list starts after the globals' BOF, the strings in the table
 abbrev pub checkSeen : List ℕ → Checked → Check
@@ -87,3 +89,7 @@ sheetSeen s nextSheet.End = record { ended = true; header = 0; size = 0; width =
 -- a new value by its kind: 0 a number, 1 a text index, 2 a truth, else an error code
 unfoldable pub newValue : ℕ → Float → ℕ → ℕ → NewValue
 newValue kind x index byte = pick (eqb kind 0) (Number x) (pick (eqb kind 1) (Text index) (pick (eqb kind 2) (Truth byte) (Error byte)))
+
+-- how far a batch of cells came
+abbrev pub filledSeen : Batch → Filled
+filledSeen x = record { cells = x .cells; ended = x .ended; at = x .place .at; part = x .place .part; level = x .place .level }

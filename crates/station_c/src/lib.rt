@@ -1,38 +1,22 @@
 // The five questions as C functions. Each is defined for every argument; a refusal's number is 0 where there is none, and what isn't answered is 0.
 ghost use mathlib.Core.Path.{_≡_};
-ghost use Prim.Native.Nat.{_+_, _-_, _*_, _≤_, _<_};
-ghost use lib.ListN.{length};
 ghost use Rattle.formula.specs.Judge.{judgeOf};
 ghost use Rattle.workbook.specs.Check.{checkedOf};
 ghost use Rattle.listing.specs.Listing.{nextSheetOf, cellsOf};
-ghost use Rattle.le.specs.Bytes.{u16At};
-ghost use Rattle.record.specs.Record.{headerAt};
-ghost use Rattle.value.specs.Value.{valueOf};
-ghost use Rattle.cell.specs.Cells.{shapeOf, fieldOf, countOf, cellOf};
 ghost use Rattle.reading.specs.Cells.{listedFrom};
 ghost use Rattle.reading.specs.Reading.{rowsOf};
 ghost use Rattle.fetch.specs.Fetch.{answerOf, bufferAfter};
 ghost use Rattle.fetch.specs.Strings.{nextStringOf, nextBuffer};
 ghost use Rattle.correction.specs.Correction.{correctionOf, answerOf as correctedOf, streamAfter};
-ghost use Rattle.station_c.specs.Answers.{checkSeen, judgeSeen, correctSeen, fetchSeen, textSeen, sheetSeen, cellsSeen, newValue};
-ghost use Rattle.station_c.specs.Parts.{partsIn, PartRoom, PartsRoom, spotIn, Went};
-ghost use Rattle.station_c.specs.Cells.{resultKind, valueKind, resultWord, valueWord, wordsOf, filledSeen, filledFrom};
-ghost use lib.Seq.{sets};
-ghost use mathlib.Core.List.{[], _∷_};
-use cell::Cell;
+ghost use Rattle.station_c.specs.Answers.{checkSeen, judgeSeen, correctSeen, fetchSeen, textSeen, sheetSeen, cellsSeen, filledSeen, newValue};
+ghost use Rattle.batch.specs.Batch.{filledFrom};
 use change::NewValue;
 use fetch::NextString;
-use listing::Listed;
 use listing::NextSheet;
 use listing::Start;
-use number::Rk;
 use reading::Place;
-use record::Header;
 use segments::Cursor;
 use strings::Fetched;
-use value::CellValue;
-use value::Field;
-use value::FormulaResult;
 use workbook::Checked;
 
 // How many sheets and strings, and the places before the first sheet and the first string.
@@ -282,282 +266,6 @@ pub extern "C" fn station_rows(s: &[u8], at: usize, part: u16, level: u8) -> u32
     listing::rows(s, Place { at, part, level })
 }
 
-// ---- a listing, in words: four for a cell
-
-// A value's kind and word.
-struct Said {
-    kind: u8,
-    word: u64,
-}
-
-fn result_said(r: FormulaResult) -> Said
-    ensures { λ x. ⌜ (x .kind ≡ resultKind r) × (x .word ≡ resultWord r) ⌝ }
-{
-    match r {
-        FormulaResult::Number(x) => Said {
-            kind: 5,
-            word: number::bits_of(x),
-        },
-        FormulaResult::NotNumber(bits) => Said {
-            kind: 5,
-            word: bits,
-        },
-        FormulaResult::Text => Said { kind: 6, word: 0 },
-        FormulaResult::Truth(truth) => Said {
-            kind: 7,
-            word: le::byte_as_u64(truth),
-        },
-        FormulaResult::Error(code) => Said {
-            kind: 8,
-            word: le::byte_as_u64(code),
-        },
-        FormulaResult::Empty => Said { kind: 9, word: 0 },
-    }
-}
-
-fn value_said(v: CellValue) -> Said
-    ensures { λ x. ⌜ (x .kind ≡ valueKind v) × (x .word ≡ valueWord v) ⌝ }
-{
-    match v {
-        CellValue::Blank => Said { kind: 0, word: 0 },
-        CellValue::Number(x) => Said {
-            kind: 1,
-            word: number::bits_of(x),
-        },
-        CellValue::NotNumber(bits) => Said {
-            kind: 1,
-            word: bits,
-        },
-        CellValue::Text(index) => Said {
-            kind: 2,
-            word: le::u32_as_u64(index),
-        },
-        CellValue::Truth(truth) => Said {
-            kind: 3,
-            word: le::byte_as_u64(truth),
-        },
-        CellValue::Error(code) => Said {
-            kind: 4,
-            word: le::byte_as_u64(code),
-        },
-        CellValue::Formula(r) => result_said(r),
-    }
-}
-
-fn head_word(row: u16, column: u16, format: u16, kind: u8) -> u64
-    ensures { λ w. ⌜ w ≡ row + column * 65536 + format * 4294967296 + kind * 281474976710656 ⌝ }
-{
-    le::u16_as_u64(row)
-        + le::u16_as_u64(column) * 65536
-        + le::u16_as_u64(format) * 4294967296
-        + le::byte_as_u64(kind) * 281474976710656
-}
-
-fn put_four(words: &mut [u64], at: usize, a: u64, b: u64, c: u64, d: u64)
-    requires { ⌜ at + 4 ≤ length (now words) ⌝ }
-    ensures { λ _. ⌜ now (words .exit) ≡ sets (now (words .entry)) at (a ∷ b ∷ c ∷ d ∷ []) ⌝ }
-{
-    words[at] = a;
-    words[at + 1] = b;
-    words[at + 2] = c;
-    words[at + 3] = d;
-}
-
-fn store(words: &mut [u64], at: usize, cell: Cell)
-    requires { ⌜ at + 4 ≤ length (now words) ⌝ }
-    ensures { λ _. ⌜ now (words .exit) ≡ sets (now (words .entry)) at (wordsOf cell) ⌝ }
-{
-    let content = cell.value;
-    let tokens = cell.tokens;
-    let said = value_said(content);
-    let head = head_word(cell.row, cell.column, cell.format, said.kind);
-    put_four(
-        words,
-        at,
-        head,
-        said.word,
-        cell.field as u64,
-        le::u16_as_u64(tokens.length),
-    );
-}
-
-// ---- the cells of a multiple record, whose header is at `at`: they stand in one row and are written by one loop
-
-// The kind and the word of what an RK word says.
-fn rk_kind(word: u32) -> u8
-    ensures { λ k. ⌜ k ≡ valueKind (valueOf Field.RkWord word) ⌝ }
-{
-    match number::decode(word) {
-        Rk::Number(_) => 1,
-        Rk::Nothing => 0,
-    }
-}
-
-fn rk_word(word: u32) -> u64
-    ensures { λ w. ⌜ w ≡ valueWord (valueOf Field.RkWord word) ⌝ }
-{
-    match number::decode(word) {
-        Rk::Number(x) => number::bits_of(x),
-        Rk::Nothing => 0,
-    }
-}
-
-// The k-th cell, in this row, after the n cells that the words have; `first` is the record's first column.
-fn put_rk(s: &[u8], at: usize, row: u16, first: u16, k: u16, words: &mut [u64], n: usize)
-    requires { ⌜ (row ≡ u16At (now s) (at + 4)) × (first ≡ u16At (now s) (at + 6)) × PartRoom (now s) Field.RkWord at k (now words) n ⌝ }
-    ensures { λ _. ⌜ now (words .exit) ≡ sets (now (words .entry)) (4 * n) (wordsOf (cellOf (now (s .entry)) Field.RkWord at k)) ⌝ }
-{
-    let q = at + 8 + le::u16_as_usize(k) * 6;
-    let word = le::u32_at(s, q + 2);
-    let head = head_word(row, first + k, le::u16_at(s, q), rk_kind(word));
-    put_four(words, 4 * n, head, rk_word(word), (q + 2) as u64, 0);
-}
-
-fn put_blank(s: &[u8], at: usize, row: u16, first: u16, k: u16, words: &mut [u64], n: usize)
-    requires { ⌜ (row ≡ u16At (now s) (at + 4)) × (first ≡ u16At (now s) (at + 6)) × PartRoom (now s) Field.NoField at k (now words) n ⌝ }
-    ensures { λ _. ⌜ now (words .exit) ≡ sets (now (words .entry)) (4 * n) (wordsOf (cellOf (now (s .entry)) Field.NoField at k)) ⌝ }
-{
-    let q = at + 8 + le::u16_as_usize(k) * 2;
-    let head = head_word(row, first + k, le::u16_at(s, q), 0);
-    put_four(words, 4 * n, head, 0, q as u64, 0);
-}
-
-// The cells from the k-th up to the last-th, without it.
-fn rk_parts(s: &[u8], at: usize, k: u16, last: u16, words: &mut [u64], n: usize)
-    requires { ⌜ PartsRoom (now s) Field.RkWord at k last (now words) n ⌝ }
-    ensures { λ _. ⌜ now (words .exit) ≡ partsIn (now (s .entry)) Field.RkWord at k (last - k) n (now (words .entry)) ⌝ }
-{
-    let row = le::u16_at(s, at + 4);
-    let first = le::u16_at(s, at + 6);
-    let mut part = k;
-    let mut cells = n;
-    while part < last {
-        put_rk(s, at, row, first, part, words, cells);
-        part += 1;
-        cells += 1;
-    }
-}
-
-fn blank_parts(s: &[u8], at: usize, k: u16, last: u16, words: &mut [u64], n: usize)
-    requires { ⌜ PartsRoom (now s) Field.NoField at k last (now words) n ⌝ }
-    ensures { λ _. ⌜ now (words .exit) ≡ partsIn (now (s .entry)) Field.NoField at k (last - k) n (now (words .entry)) ⌝ }
-{
-    let row = le::u16_at(s, at + 4);
-    let first = le::u16_at(s, at + 6);
-    let mut part = k;
-    let mut cells = n;
-    while part < last {
-        put_blank(s, at, row, first, part, words, cells);
-        part += 1;
-        cells += 1;
-    }
-}
-
-// Where the parts from the k-th on end: at the last of `count`, or where `room` is full.
-fn last_part(k: u16, count: u16, room: usize) -> u16
-    requires { ⌜ (k < count) × (0 < room) ⌝ }
-    ensures { λ r. ⌜ (k < r) × (r ≤ count) × (r - k ≤ room) ⌝ }
-{
-    let left = count - k;
-    if le::u16_as_usize(left) <= room {
-        return count;
-    }
-    k + room as u16
-}
-
-// A place in the record: at its end, the next record.
-fn spot(at: usize, end: usize, count: u16, k: u16) -> Place
-    ensures { λ r. ⌜ r ≡ spotIn at end count k ⌝ }
-{
-    if count <= k {
-        return Place {
-            at: end,
-            part: 0,
-            level: 0,
-        };
-    }
-    Place {
-        at,
-        part: k,
-        level: 0,
-    }
-}
-
-// How far a listing came.
-struct Progress {
-    place: Place,
-    cells: usize,
-}
-
-// Cells of the record of this type from the k-th on, which isn't the first: so it is a multiple record.
-fn put_parts(
-    s: &[u8],
-    at: usize,
-    kind: u16,
-    size: usize,
-    k: u16,
-    last: u16,
-    words: &mut [u64],
-    n: usize,
-)
-    requires { ⌜ (at + 4 + size ≤ length (now s)) × (1 ≤ k) × (k < last) × (last ≤ countOf (shapeOf kind) (now s) at size) × (4 * (n + (last - k)) ≤ length (now words)) ⌝ }
-    ensures { λ _. ⌜ now (words .exit) ≡ partsIn (now (s .entry)) (fieldOf (shapeOf kind)) at k (last - k) n (now (words .entry)) ⌝ }
-{
-    match kind {
-        0x00BD => rk_parts(s, at, k, last, words, n),
-        0x00BE => blank_parts(s, at, k, last, words, n),
-        _ => {}
-    }
-}
-
-fn fill_parts(
-    s: &[u8],
-    v: Place,
-    kind: u16,
-    size: usize,
-    end: usize,
-    words: &mut [u64],
-    n: usize,
-    room: usize,
-) -> Progress
-    requires { ⌜ (headerAt (now s) (v .at) ≡ Header.Record kind size end) × (v .at + 4 + size ≤ length (now s)) × (v .level ≡ 0) × (1 ≤ v .part) × (n < room) × (4 * room ≤ length (now words)) ⌝ }
-    ensures { λ r. ⌜ Went (now (s .entry)) room v n (now (words .entry)) (r .place) (r .cells) (now (words .exit)) ⌝ }
-{
-    let at = v.at;
-    let k = v.part;
-    let count = cell::cell_count(s, at, kind, size);
-    if count <= k {
-        return Progress { place: v, cells: n };
-    }
-    let last = last_part(k, count, room - n);
-    put_parts(s, at, kind, size, k, last, words, n);
-    Progress {
-        place: spot(at, end, count, last),
-        cells: n + le::u16_as_usize(last - k),
-    }
-}
-
-// On through the record whose first cells are there.
-fn fill_record(s: &[u8], v: Place, words: &mut [u64], n: usize, room: usize) -> Progress
-    requires { ⌜ (n ≤ room) × (4 * room ≤ length (now words)) ⌝ }
-    ensures { λ r. ⌜ Went (now (s .entry)) room v n (now (words .entry)) (r .place) (r .cells) (now (words .exit)) ⌝ }
-{
-    if v.part == 0 {
-        return Progress { place: v, cells: n };
-    }
-    if v.level != 0 {
-        return Progress { place: v, cells: n };
-    }
-    if room <= n {
-        return Progress { place: v, cells: n };
-    }
-    match record::header_at(s, v.at) {
-        Header::Record { kind, size, end } => fill_parts(s, v, kind, size, end, words, n, room),
-        Header::Cut => Progress { place: v, cells: n },
-        Header::End => Progress { place: v, cells: n },
-    }
-}
-
 // The next cells from a place on, as many as there is room for, four words each.
 #[no_mangle]
 pub extern "C" fn station_next_cells(
@@ -570,36 +278,14 @@ pub extern "C" fn station_next_cells(
     ensures { λ r. ⌜ r ≡ filledSeen (filledFrom (now (s .entry)) (record { at = at; part = part; level = level }) (now (words .entry))) ⌝ }
     ensures { λ r. ⌜ now (words .exit) ≡ filledFrom (now (s .entry)) (record { at = at; part = part; level = level }) (now (words .entry)) .words ⌝ }
 {
-    let room = words.len() / 4;
-    let mut v = Place { at, part, level };
-    let mut n: usize = 0;
-    loop {
-        if n >= room {
-            return Filled {
-                cells: n,
-                ended: false,
-                at: v.at,
-                part: v.part,
-                level: v.level,
-            };
-        }
-        match listing::next_cell(s, v) {
-            Listed::Cell { cell, next } => {
-                store(words, 4 * n, cell);
-                let further = fill_record(s, next, words, n + 1, room);
-                v = further.place;
-                n = further.cells;
-            }
-            Listed::End => {
-                return Filled {
-                    cells: n,
-                    ended: true,
-                    at: v.at,
-                    part: v.part,
-                    level: v.level,
-                };
-            }
-        }
+    let filled = batch::fill(s, Place { at, part, level }, words);
+    let place = filled.place;
+    Filled {
+        cells: filled.cells,
+        ended: filled.ended,
+        at: place.at,
+        part: place.part,
+        level: place.level,
     }
 }
 

@@ -4,23 +4,25 @@ use mathlib.Core.Path.{_≡_, refl, sym, ap, _∙_, subst, subst⁻¹}
 use mathlib.Core.List.{List, _∷_, _++_}
 use mathlib.Core.Bool.{true, false}
 use native.Mathlib.Omega.{arith}
-use native.Mathlib.Nat.{zero-add}
+use native.Mathlib.Nat.{zero-add, div-one}
 use lib.ListN.{length, getD, drop}
 use lib.Seq.{sets, sets-eq}
-use Rattle.walk.proofs.Choice.{pick-lt, pick-nlt, refl′}
-use Rattle.le.specs.Bytes.{byteAt, u32At}
+use lib.Dec.{eqb}
+use borrow.Author.Tests.{eqb-false}
+use Rattle.walk.proofs.Choice.{pick-by, pick-ne, pick-lt, pick-nlt, refl′}
+use Rattle.le.specs.Bytes.{byteAt, u16At, u32At}
 use Rattle.segments.specs.declared.Cursor.{Cursor}
 use Rattle.segments.specs.declared.Moved.{Moved}
 use Rattle.segments.specs.Segments.{Got, got, refused, then, push, listOf, on, filled, need, widthOf, items}
 use Rattle.segments.specs.Parts.{Inside, ends, moved, Passes, stored}
 use Rattle.segments.proofs.Local.{refused-not, Within, within-from}
-use Rattle.segments.proofs.Laws.{ends-to, ends-refused, ends-inside, items-inside, ends-push, Count, count-items}
+use Rattle.segments.proofs.Laws.{ends-to, ends-refused, ends-inside, items-inside, ends-push, skip-all, Count, count-items}
 use Rattle.strings.specs.declared.Head.{Head}
 use Rattle.strings.specs.declared.HeadRead.{HeadRead}
 use Rattle.strings.specs.declared.Strings.{Strings}
 use Rattle.strings.specs.declared.Fetched.{Fetched}
-use Rattle.strings.specs.Table.{richBit, headSize, headAt, startSize, head, rest, stringAt, unitsAt, nextPlace, strings, first, tableOf, placesOf, nowhere, placeOf, answerOf, fetchedOf, bufferOf}
-use Rattle.strings.specs.Parts.{headRead, nextString}
+use Rattle.strings.specs.Table.{phoneticBit, richBit, headSize, runsAt, phoneticAt, headAt, startSize, head, rest, stringAt, unitsAt, nextPlace, strings, first, tableOf, placesOf, nowhere, placeOf, answerOf, fetchedOf, bufferOf}
+use Rattle.strings.specs.Parts.{headRead, nextString, Plain}
 use Rattle.strings.proofs.Local.{start-size-low, reads-head, reads-string, reads-place, reads-strings, Right, right}
 
 -- ---- a string's head
@@ -148,6 +150,72 @@ module _ (s : List ℕ) (c : Cursor) (m : Moved) (is : moved m ≡ nextPlace s c
   next-refused a b q i = rw (← is, q) i
 
 pub ruleset string-laws = (rest-to, rest-refused, head-refused, chars-refused, chars-to, next-to, next-refused, refl′)
+
+-- ---- a plain string
+abbrev plainHead : ℕ → Head
+plainHead n = record { chars = n; width = 1; runs = 0; phonetic = 0 }
+
+pub plain-none : (s : List ℕ) (c : Cursor) → Plain s c 0
+plain-none s c = record { within = omega arith; next = λ o. absurd (o refl) }
+
+module _ (s : List ℕ) (c : Cursor) (here flags width rich phonetic chars n : ℕ) (room : here ≡ c .end - c .at) (is : flags ≡ byteAt s (c .at + 2)) (w-is : width ≡ widthOf flags) (r-is : rich ≡ richBit flags) (p-is : phonetic ≡ phoneticBit flags)
+    (narrow : width ≡ 1) (no-runs : rich ≡ 0) (no-phonetic : phonetic ≡ 0) (c-is : chars ≡ u16At s (c .at)) (wide : n ≡ chars) (fits : 3 + n ≤ here) where
+  flags-narrow : widthOf (byteAt s (c .at + 2)) ≡ 1
+  flags-narrow = ap widthOf (sym is) ∙ sym w-is ∙ narrow
+
+  flags-rich : richBit (byteAt s (c .at + 2)) ≡ 0
+  flags-rich = ap richBit (sym is) ∙ sym r-is ∙ no-runs
+
+  flags-phonetic : phoneticBit (byteAt s (c .at + 2)) ≡ 0
+  flags-phonetic = ap phoneticBit (sym is) ∙ sym p-is ∙ no-phonetic
+
+  head-three : headSize (byteAt s (c .at + 2)) ≡ 3
+  head-three = let a = flags-rich in let b = flags-phonetic in omega arith
+
+  start-low : startSize s (c .at) ≤ 3 + n
+  unfolding startSize
+  start-low =
+      pick-by (λ (k : ℕ). k ≤ 3 + n) (eqb (u16At s (c .at)) 0)
+      (λ _. let a = head-three in omega arith)
+      (λ e. let a = head-three in let b = flags-narrow in let o = eqb-false (u16At s (c .at)) 0 e in some (u16At s (c .at)) (c-is) o (omega arith))
+    where
+      some : (m : ℕ) → chars ≡ m → (m ≡ 0 → ⊥) → headSize (byteAt s (c .at + 2)) + widthOf (byteAt s (c .at + 2)) ≡ 4 → headSize (byteAt s (c .at + 2)) + widthOf (byteAt s (c .at + 2)) ≤ 3 + n
+      some m i o j = omega arith
+
+  head-plain : head s c ≡ got (plainHead n) (on c 3)
+  unfolding head need headAt runsAt phoneticAt
+  head-plain =
+      sym (ap (λ (x : Got ℕ). then x (λ _ d. then (need 8 (startSize s (d .at)) d) (λ _ e. got (headAt s (e .at)) (on e (headSize (byteAt s (e .at + 2))))))) (pick-nlt (got 3 c) _ _ (c .end - c .at) 3 (omega arith) refl))
+      ∙ sym (ap (λ (x : Got ℕ). then x (λ _ e. got (headAt s (e .at)) (on e (headSize (byteAt s (e .at + 2)))))) (pick-nlt (got (startSize s (c .at)) c) _ _ (c .end - c .at) (startSize s (c .at)) (let l = start-low in omega arith) refl))
+      ∙ (let a = sym (pick-ne 0 (u16At s (c .at + 3)) 0 (richBit (byteAt s (c .at + 2))) 1 (λ e. let r = flags-rich in omega arith) refl) in
+      let b = sym (pick-ne 0 (u32At s (c .at + 3 + 2 * richBit (byteAt s (c .at + 2)))) 0 (phoneticBit (byteAt s (c .at + 2))) 1 (λ e. let p = flags-phonetic in omega arith) refl) in
+      let m = sym (wide ∙ c-is) in
+      λ i. got (record { chars = m i; width = flags-narrow i; runs = a i; phonetic = b i }) (on c (head-three i)))
+
+  place-plain : nextPlace s c ≡ got tt c
+  unfolding nextPlace
+  place-plain = sym (pick-ne (got tt c) _ _ (c .at) (c .end) (λ e. omega arith) refl)
+
+  after-chars : (us : List ℕ) (e : Cursor) → got tt e ≡ ends (then (rest s (plainHead n) e) (λ _ i. got us i))
+  unfolding rest items
+  after-chars us e = refl
+
+  pub plain-there : Plain s c (3 + n)
+  unfolding nextString stringAt
+  plain-there = record {
+    within = omega arith;
+    next = λ _.
+        (let j : on c (3 + n) ≡ on (on c 3) (n * 1) = (let k : c .at + (3 + n) ≡ c .at + 3 + n * 1 = omega arith in λ i. record { seg = c .seg; at = k i; end = c .end }) in ap (got tt) j)
+        ∙ ends-to (items 8 s true 1 n (on c 3)) (λ us e. then (rest s (plainHead n) e) (λ _ i. got us i)) (got tt (on (on c 3) (n * 1))) (Moved.To (on (on c 3) (n * 1)))
+        (skip-all s 1 n (on c 3) (c .end - (c .at + 3)) (sym (div-one (c .end - (c .at + 3)))) (omega arith) 8 true (omega arith)) (on (on c 3) (n * 1)) refl (λ us. after-chars us (on (on c 3) (n * 1)))
+        ∙ ap (λ (x : Got Head). ends (then x (λ h d. then (items 8 s true (h .width) (h .chars) d) (λ us e. then (rest s h e) (λ _ i. got us i))))) (sym head-plain)
+        ∙ ap (λ (x : Got Unit). ends (then x (λ _ d. stringAt s d))) (sym place-plain);
+  }
+
+pub skip-plain : (s : List ℕ) (c : Cursor) (n : ℕ) → Plain s c n → (n ≡ 0 → ⊥) → got tt (record { seg = c .seg; at = c .at + n; end = c .end }) ≡ ends (nextString s c)
+skip-plain s c n p o = p .next o
+
+pub ruleset plain-laws = (plain-none, plain-there)
 
 -- ---- past n strings
 strings-next : (s : List ℕ) (n : ℕ) (c : Cursor) → ends (strings s (suc n) c) ≡ ends (then (nextString s c) (λ _ e. strings s n e))

@@ -6,7 +6,7 @@ ghost use lib.ListN.{length};
 ghost use Rattle.le.specs.Bytes.{byteAt};
 ghost use Rattle.segments.specs.Parts.{Inside, ends, moved, Passes};
 ghost use Rattle.strings.specs.Table.{phoneticBit, richBit, headSize, runsAt, phoneticAt, headAt, startSize, head, rest, stringAt, unitsAt, nextPlace, strings, tableOf, placesOf, placeOf, unitsOf, answerOf, fetchedOf, bufferOf};
-ghost use Rattle.strings.specs.Parts.{headRead, nextString};
+ghost use Rattle.strings.specs.Parts.{headRead, nextString, Plain};
 use segments::Cursor;
 use segments::Moved;
 
@@ -168,11 +168,45 @@ pub fn next_place(s: &[u8], c: Cursor) -> Moved
     Moved::To(c)
 }
 
+// The bytes of the string at c where it is a plain one, as most are: narrow characters that end in this segment, no runs, no phonetic bytes. 0 for others.
+fn plain_size(s: &[u8], c: Cursor) -> usize
+    requires { ⌜ Inside (now s) c ⌝ }
+    ensures { λ r. ⌜ Plain (now (s .entry)) c r ⌝ }
+{
+    let here = c.end - c.at;
+    if here < 3 {
+        return 0;
+    }
+    let flags = s[c.at + 2];
+    if segments::width_of(flags) != 1 {
+        return 0;
+    }
+    if rich_bit(flags) != 0 {
+        return 0;
+    }
+    if phonetic_bit(flags) != 0 {
+        return 0;
+    }
+    let size = 3 + le::u16_as_usize(le::u16_at(s, c.at));
+    if here < size {
+        return 0;
+    }
+    size
+}
+
 // Past the next string.
 fn skip_next(s: &[u8], c: Cursor) -> Moved
     requires { ⌜ Inside (now s) c ⌝ }
     ensures { λ r. ⌜ moved r ≡ ends (nextString (now (s .entry)) c) ⌝ }
 {
+    let size = plain_size(s, c);
+    if size != 0 {
+        return Moved::To(Cursor {
+            seg: c.seg,
+            at: c.at + size,
+            end: c.end,
+        });
+    }
     match next_place(s, c) {
         Moved::Refused { number, offset } => Moved::Refused { number, offset },
         Moved::To(d) => skip_string(s, d),

@@ -1,5 +1,5 @@
 -- From a correction that is granted to what it has. Assumes nothing.
-use Prim.Native.Nat.{ℕ, zero, suc, _+_, _*_, _≤_}
+use Prim.Native.Nat.{ℕ, _+_, _*_, _≤_}
 use mathlib.Core.Path.{_≡_, refl, ap, _∙_, subst}
 use mathlib.Core.List.{List, [], _∷_}
 use mathlib.Core.Bool.{_&&_}
@@ -25,7 +25,8 @@ use Rattle.change.specs.declared.Plan.the-variants as plan
 use Rattle.change.specs.Change.{planOf}
 use Rattle.kept.specs.Claims.{placeOf}
 use Rattle.kept.proofs.Fields.{field-in}
-use Rattle.kept.proofs.Records.{count-lies, cell-place}
+use Rattle.cell.proofs.Sizes.{count-lies}
+use Rattle.kept.proofs.Records.{cell-place}
 use Rattle.sheetlist.specs.Agreement.{Sheet}
 use Rattle.globals.specs.declared.Globals.{Globals}
 use Rattle.globals.specs.Sheets.{sheetsOf}
@@ -36,9 +37,9 @@ use Rattle.reading.specs.declared.Place.{Place}
 use Rattle.reading.specs.Cells.{placeAt, nextPart, otherItem, onFound, recordItem, onHeader, cellItem, remaining, listedFrom}
 use Rattle.reading.specs.Reading.{listedOf}
 use Rattle.reading.proofs.Laws.{Here, found-there}
-use Rattle.correction.specs.Correction.{Correction, refuses, writes, cellsAt, onPlan, onCells, correctionOf}
-use Rattle.chain.specs.Chain.{here, Reach, Every, Nth, first, next}
-use Rattle.chain.proofs.Chain.{chain-trans, reach-one, Keeps, collect-every}
+use Rattle.correction.specs.Correction.{refuses, writes, cellsAt, onPlan, onCells, correctionOf}
+use Rattle.chain.specs.Chain.{here, Reach, Every, Nth}
+use Rattle.chain.proofs.Chain.{chain-trans, reach-one, Keeps, collect-every, nth-either}
 use Rattle.upheld.specs.Granted.{Granted, Listed}
 
 refuses-not : {A : Type 0} {n o p b : ℕ} {f : Field} → refuses n o ≡ writes f p b → A
@@ -58,17 +59,11 @@ module _ (s : List ℕ) (n row column : ℕ) (v : NewValue) (f : Field) (p b : �
     by-cells (c ∷ []) i h = by-plan c i (planOf (c .kind) v (g .unique)) refl h
     by-cells (c ∷ d ∷ l) i h = refuses-not h
 
-  by-nth : (k : Sheet → Correction) (G : Type 0) (l : List Sheet) (m : ℕ) → ((x : Sheet) → Nth l m x → k x ≡ writes f p b → G) → nth l m k (refuses 11 0) ≡ writes f p b → G
-  unfolding nth
-  by-nth k G [] m on h = refuses-not h
-  by-nth k G (x ∷ l) zero on h = on x first h
-  by-nth k G (x ∷ l) (suc m) on h = by-nth k G l m (λ y i. on y (next i)) h
-
   by-checked : (x : Checked) → checkedOf s 0 ≡ x
       → onChecked refuses (λ (g : Globals). nth (sheetsOf s) n (λ (x : Sheet). onCells v (g .unique) (cellsAt row column (listedOf s x))) (refuses 11 0)) x ≡ writes f p b → Granted s n row column v f p b
   by-checked (Right g) i h =
-      by-nth (λ (x : Sheet). onCells v (g .unique) (cellsAt row column (listedOf s x))) (Granted s n row column v f p b) (sheetsOf s) n
-      (λ x j e. by-cells g i x j (cellsAt row column (listedOf s x)) refl e) h
+      nth-either (λ (x : Sheet). onCells v (g .unique) (cellsAt row column (listedOf s x))) (refuses 11 0) (writes f p b) (Granted s n row column v f p b) (sheetsOf s) n
+      (λ x j e. by-cells g i x j (cellsAt row column (listedOf s x)) refl e) (λ _ e. refuses-not e) h
   by-checked (Wrong m o) i h = refuses-not h
 
   pub granted : correctionOf s n row column v ≡ writes f p b → Granted s n row column v f p b

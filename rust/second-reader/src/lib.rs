@@ -28,7 +28,7 @@ mod survey;
 pub use cells::{Cell, FormulaResult, Value};
 pub use correction::{correct, NewValue};
 pub use formula::judge;
-pub use print::print;
+pub use print::{lines, print};
 pub use refusal::Refusal;
 pub use rk::{decode as decode_rk, pack as pack_rk};
 pub use sheets::SheetType;

@@ -11,7 +11,12 @@ pub fn print(input: &[u8]) -> String {
     if input.len() > LONGEST_INPUT {
         return "too long\n".to_string();
     }
-    match read(input) {
+    lines(input)
+}
+
+/// The same lines for a stream of any length.
+pub fn lines(stream: &[u8]) -> String {
+    match read(stream) {
         Ok(reading) => reading_lines(&reading),
         Err(refusal) => format!("{refusal}\n"),
     }

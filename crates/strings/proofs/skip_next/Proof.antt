@@ -1,4 +1,4 @@
-use Rattle.strings.proofs.Laws.{string-laws, inside-laws}
+use Rattle.strings.proofs.Laws.{string-laws, inside-laws, skip-plain}
 use borrow.Author.Needs.{needs}
 use Rattle.strings.proofs.skip_next.Statement.{statement}
 use Rattle.strings.proofs.skip_next.Tie as tie
@@ -7,6 +7,12 @@ pub skip-next-spec : {M : Type 1} → statement M
 skip-next-spec =
     tie.close
     (tie.spec
+    -- plain-size-requires
+    (λ c κs. search needs)
+    -- add-t8
+    (λ c. search needs)
+    -- returns
+    (λ c. search (skip-plain, needs))
     -- next-place-requires
     (λ c κs. search needs)
     -- enum-known-number
@@ -15,7 +21,7 @@ skip-next-spec =
     (λ c. search needs)
     -- skip-string-requires
     (λ c κs. search inside-laws)
-    -- returns
-    (λ c. search string-laws)
     -- returns-2
+    (λ c. search string-laws)
+    -- returns-3
     (λ c. search string-laws))

@@ -1,26 +1,12 @@
 //! check.
 
 use crate::made;
-use crate::tool::{case, case_inputs, cases, finish, run, run_with, Folder, TOOL};
+use crate::tool::{case, case_inputs, cases, finish, run, run_with, Folder, TOLD_BY, TOOL};
 use crate::words;
 use std::ffi::{OsStr, OsString};
 use std::fs::{self, File};
 use std::os::unix::ffi::OsStrExt;
 use std::process::Command;
-
-/// Words of the table in document 01 that each refusal of a check has to be told by.
-const TOLD_BY: [&str; 10] = [
-    "longer than 16,777,216 bytes",
-    "over 8,224 bytes",
-    "globals",
-    "substreams",
-    "FILEPASS",
-    "wrong size or field",
-    "CONTINUE",
-    "shared string table",
-    "index is not below",
-    "sheet list and the substreams disagree",
-];
 
 /// The line for a stream, without what a refusal means.
 fn expected(name: &str, stream: &[u8]) -> String {

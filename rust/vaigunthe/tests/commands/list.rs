@@ -2,42 +2,7 @@
 
 use crate::tool::{case, case_inputs, run, run_with, Folder};
 use crate::words;
-use second_reader::{FormulaResult, Value};
-use std::fmt::Write;
 use std::fs;
-
-/// The lines of document 01, from what the second reader reads.
-fn lines_of(stream: &[u8]) -> String {
-    let reading = second_reader::read(stream).expect("a stream that passes");
-    let cells: usize = reading.sheets.iter().map(|sheet| sheet.cells.len()).sum();
-    let (sheets, strings) = (reading.sheets.len(), reading.strings.len());
-    let mut lines = format!("sheets {sheets} strings {strings} cells {cells}\n");
-    for (number, sheet) in reading.sheets.iter().enumerate() {
-        writeln!(lines, "sheet {number} rows {}", sheet.rows).expect("a line");
-        for cell in &sheet.cells {
-            let value = match cell.value {
-                Value::Formula(result) => format!("formula {}", result_words(result)),
-                Value::Blank => "blank".to_string(),
-                Value::Number(bits) => format!("number {bits:016X}"),
-                Value::Text(index) => format!("text {index}"),
-                Value::Truth(truth) => format!("truth {truth}"),
-                Value::Error(code) => format!("error {code:02X}"),
-            };
-            writeln!(lines, "{} {} {value}", cell.row, cell.column).expect("a line");
-        }
-    }
-    lines
-}
-
-fn result_words(result: FormulaResult) -> String {
-    match result {
-        FormulaResult::Number(bits) => format!("number {bits:016X}"),
-        FormulaResult::Text => "text".to_string(),
-        FormulaResult::Truth(truth) => format!("truth {truth}"),
-        FormulaResult::Error(code) => format!("error {code:02X}"),
-        FormulaResult::Empty => "empty".to_string(),
-    }
-}
 
 #[test]
 fn the_stored_cases() {
@@ -60,7 +25,7 @@ fn made_streams() {
     for seed in 0..200 {
         let stream = streams::stream(seed);
         let status = i32::from(second_reader::check(&stream).is_err());
-        run_with(&["list", "-"], &stream).says(status, &second_reader::print(&stream));
+        run_with(&["list", "-"], &stream).says(status, &second_reader::lines(&stream));
     }
 }
 
@@ -72,12 +37,11 @@ fn streams_over_65536_bytes() {
     run(words!["list", input]).says(0, lines);
     for kind in [streams::Big::Mixed, streams::Big::MulRks] {
         let stream = streams::big(kind, 300_000);
-        run_with(&["list", "-"], &stream).says(0, &lines_of(&stream));
+        run_with(&["list", "-"], &stream).says(0, &second_reader::lines(&stream));
     }
     let mut cut = streams::big(streams::Big::Numbers, 300_000);
     cut.truncate(200_000);
-    let refusal = second_reader::check(&cut).expect_err("a cut stream");
-    run_with(&["list", "-"], &cut).says(1, &format!("{refusal}\n"));
+    run_with(&["list", "-"], &cut).says(1, &second_reader::lines(&cut));
 }
 
 #[test]

@@ -140,3 +140,25 @@ macro_rules! words {
         &[$(std::ffi::OsString::from(&$word)),*]
     };
 }
+
+/// Words of document 01's table of refusals, for each of them in order.
+pub const TOLD_BY: [&str; 18] = [
+    "longer than 16,777,216 bytes",
+    "8,224 bytes",
+    "first record",
+    "substreams",
+    "FILEPASS",
+    "wrong size or field",
+    "CONTINUE",
+    "shared string table",
+    "index is not below",
+    "sheet list and the substreams disagree",
+    "sheet, string or cell asked for is absent",
+    "fewer units than the string",
+    "unknown, cut or misplaced token",
+    "stack runs short",
+    "no such function",
+    "two or more cells have the address",
+    "kind does not take this kind of value",
+    "value does not fit",
+];

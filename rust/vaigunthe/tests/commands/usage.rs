@@ -1,6 +1,6 @@
 //! Help, wrong usage, and what becomes of the output.
 
-use crate::tool::{case, finish, run, run_with, Folder, TOOL};
+use crate::tool::{case, finish, run, run_with, Folder, TOLD_BY, TOOL};
 use crate::words;
 use std::fs::{self, File};
 use std::io::Read;
@@ -8,28 +8,6 @@ use std::process::{Command, Stdio};
 
 const COMMANDS: [&str; 8] = [
     "check", "list", "sheets", "strings", "fetch", "judge", "export", "correct",
-];
-
-/// Words of document 01's table of refusals, for each of them in order.
-const TOLD_BY: [&str; 18] = [
-    "longer than 16,777,216 bytes",
-    "8,224 bytes",
-    "first record",
-    "substreams",
-    "FILEPASS",
-    "wrong size or field",
-    "CONTINUE",
-    "shared string table",
-    "index is not below",
-    "sheet list and the substreams disagree",
-    "sheet, string or cell asked for is absent",
-    "fewer units than the string",
-    "unknown, cut or misplaced token",
-    "stack runs short",
-    "no such function",
-    "two or more cells have the address",
-    "kind does not take this kind of value",
-    "value does not fit",
 ];
 
 #[test]

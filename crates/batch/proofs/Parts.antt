@@ -1,0 +1,155 @@
+-- The cells of one record, put after one another: one, none, or those of a multiple record in a loop. Assumes nothing.
+use Prim.Native.Nat.{ℕ, zero, suc, _+_, _-_, _*_, _≤_, _<_}
+use mathlib.Core.Path.{_≡_, refl, ap, sym, _∙_, subst}
+use mathlib.Core.List.{List, [], _∷_}
+use native.Mathlib.Omega.{arith}
+use native.Mathlib.Nat.{suc-mul, mul-le-mul-right}
+use lib.ListN.{length}
+use lib.Seq.{sets, length-sets}
+use Rattle.walk.proofs.Choice.{refl′}
+use Rattle.le.specs.Bytes.{u16At, numAt}
+use Rattle.value.specs.declared.Field.{Field}
+use Rattle.value.specs.declared.FormulaResult.{FormulaResult}
+use Rattle.value.specs.Value.{widthOf, resultOf, valueOf}
+use Rattle.cell.specs.declared.Shape.{Shape}
+use Rattle.cell.specs.declared.Shape.the-variants.{BLANK, FORMULA, OTHER}
+use Rattle.cell.specs.Cells.{shapeOf, fieldOf, partOf, startOf, firstAt, sized, multiple, lengthAt, countOf, tokensAt, cellOf}
+use Rattle.cell.proofs.Sizes.{sizeOf, size-none, size-one, formula-none, length-none, length-one, multiple-below}
+use Rattle.batch.specs.declared.Said.{Said}
+use Rattle.batch.specs.Batch.{resultKind, resultWord, valueKind, valueWord, wordsOf}
+use Rattle.batch.specs.Parts.{oneWords, partsIn, PartRoom, PartsRoom, Put}
+use Rattle.batch.proofs.Words.{written}
+
+-- ---- a record of one cell: its cell is put, or it has none here
+pub one-put : (s : List ℕ) (at n : ℕ) (x : Said) (field tokens length : ℕ) (b : List ℕ) {d : List ℕ} {row column format head : ℕ} → row ≡ u16At s (at + 4) → column ≡ u16At s (at + 6) → format ≡ u16At s (at + 8) → length ≡ tokens
+    → head ≡ row + column * 65536 + format * 4294967296 + x .kind * 281474976710656 → d ≡ sets b (4 * n) (head ∷ x .word ∷ field ∷ length ∷ []) → d ≡ sets b (4 * n) (oneWords s at x field tokens)
+one-put s at n x field tokens length b r c o l h e = e ∙ ap (sets b (4 * n)) (λ j. (h ∙ (λ y. r y + c y * 65536 + o y * 4294967296 + x .kind * 281474976710656)) j ∷ x .word ∷ field ∷ l j ∷ [])
+
+module _ (s : List ℕ) (h : Shape) (at z k n : ℕ) (b : List ℕ) where
+  put-none : countOf h s at z ≡ 0 → Put s h at z k n 1 b 0 0 b
+  unfolding partsIn
+  put-none e = record { counted = sym e; within = omega arith; some = λ l. absurd (omega arith); fits = omega arith; words = let i : 0 - k ≡ zero = omega arith in ap (λ (j : ℕ). partsIn s (fieldOf h) at k j n b) (sym i) }
+
+  module _ (one : countOf h s at z ≡ 1) where
+    put-past : (k ≡ 0 → ⊥) → Put s h at z k n 1 b 1 1 b
+    unfolding partsIn
+    put-past o = record { counted = sym one; within = omega arith; some = λ l. absurd (o (omega arith)); fits = omega arith; words = let i : 1 - k ≡ zero = later k o in ap (λ (j : ℕ). partsIn s (fieldOf h) at k j n b) (sym i) }
+      where
+        later : (k : ℕ) → (k ≡ 0 → ⊥) → 1 - k ≡ zero
+        later zero o = absurd (o refl)
+        later (suc k) o = omega arith
+
+    module _ (first : k ≡ 0) (x : Said) (field length m : ℕ) {d : List ℕ} (put : d ≡ sets b (4 * n) (oneWords s at x field length)) where
+      put-there : m ≡ numAt s (widthOf (fieldOf h)) (at + 8 + startOf (fieldOf h)) → x .kind ≡ valueKind (valueOf (fieldOf h) m) → x .word ≡ valueWord (valueOf (fieldOf h) m) → field ≡ at + 8 + startOf (fieldOf h) → length ≡ tokensAt (fieldOf h) s (at + 8) .length → Put s h at z k n 1 b 1 1 d
+      unfolding partsIn
+      put-there u i w p t =
+          record {
+            counted = sym one;
+            within = omega arith;
+            some = λ l. omega arith;
+            fits = omega arith;
+            words =
+                written s (fieldOf h) n b at k (u16At s (at + 4)) (u16At s (at + 6)) (at + 8) m (u16At s (at + 8)) (x .kind) (x .word) field length _ d refl (omega arith) (start k first) refl u i w p t refl put
+                ∙ (let j : suc zero ≡ 1 - k = omega arith in ap (λ (y : ℕ). partsIn s (fieldOf h) at k y n b) j);
+          }
+        where
+          start : (k : ℕ) → k ≡ 0 → at + 8 ≡ at + 8 + k * partOf (fieldOf h)
+          start k e = rw e (omega arith)
+
+-- by the size
+module _ (s : List ℕ) (h : Shape) (at z k n : ℕ) (b : List ℕ) (one : countOf h s at z ≡ sized z (sizeOf h) 1) where
+  pub put-absent : (z ≡ sizeOf h → ⊥) → Put s h at z k n 1 b 0 0 b
+  put-absent o = put-none s h at z k n b (size-none s h at z one o)
+
+  module _ (size : z ≡ sizeOf h) where
+    pub put-later : (k ≡ 0 → ⊥) → Put s h at z k n 1 b 1 1 b
+    put-later o = put-past s h at z k n b (size-one s h at z one size) o
+
+    pub put-first : k ≡ 0 → (x : Said) (field m : ℕ) {d : List ℕ} → d ≡ sets b (4 * n) (oneWords s at x field 0) → m ≡ numAt s (widthOf (fieldOf h)) (at + 8 + startOf (fieldOf h)) → x .kind ≡ valueKind (valueOf (fieldOf h) m) → x .word ≡ valueWord (valueOf (fieldOf h) m)
+        → field ≡ at + 8 + startOf (fieldOf h) → 0 ≡ tokensAt (fieldOf h) s (at + 8) .length → Put s h at z k n 1 b 1 1 d
+    put-first e x field m p u i w f t = put-there s h at z k n b (size-one s h at z one size) e x field 0 m p u i w f t
+
+pub blank-first : (s : List ℕ) (at z k n : ℕ) (b : List ℕ) → z ≡ 6 → k ≡ 0 → (x : Said) {d : List ℕ} → x .kind ≡ 0 → x .word ≡ 0 → d ≡ sets b (4 * n) (oneWords s at x (at + 8) 0) → Put s BLANK at z k n 1 b 1 1 d
+blank-first s at z k n b size e x i w p = put-first s BLANK at z k n b refl size e x (at + 8) _ p refl i w (omega arith) refl
+
+pub ruleset put-laws = (put-absent, put-later, put-first, refl′)
+
+module _ (s : List ℕ) (at z k n : ℕ) (b : List ℕ) where
+  pub formula-short : z < 22 → Put s FORMULA at z k n 1 b 0 0 b
+  formula-short l = put-none s FORMULA at z k n b (formula-none s at z l)
+
+  module _ (length wide : ℕ) (is : length ≡ u16At s (at + 8 + 16)) (w : wide ≡ length) where
+    pub formula-cut : z < 22 + wide → Put s FORMULA at z k n 1 b 0 0 b
+    formula-cut l = put-none s FORMULA at z k n b (length-none s at z length wide is w l)
+
+    module _ (long : 22 + wide ≤ z) where
+      pub formula-later : (k ≡ 0 → ⊥) → Put s FORMULA at z k n 1 b 1 1 b
+      formula-later o = put-past s FORMULA at z k n b (length-one s at z length wide is w long) o
+
+      pub formula-first : k ≡ 0 → (x : Said) (m : ℕ) (r : FormulaResult) {d : List ℕ} → d ≡ sets b (4 * n) (oneWords s at x (at + 8 + 2) length) → m ≡ numAt s 8 (at + 8 + 2) → r ≡ resultOf m → x .kind ≡ resultKind r → x .word ≡ resultWord r → Put s FORMULA at z k n 1 b 1 1 d
+      unfolding lengthAt
+      formula-first e x m r p u v i j =
+          put-there s FORMULA at z k n b (length-one s at z length wide is w long) e x (at + 8 + 2) length m p u (i ∙ ap resultKind v) (j ∙ ap resultWord v) refl is
+
+pub ruleset formula-laws = (formula-short, formula-cut, formula-later, formula-first)
+
+-- the parts from the k-th on are there, up to this one: `cells` cells in all
+pub record Written (s : List ℕ) (f : Field) (at k last : ℕ) (b₀ : List ℕ) (n : ℕ) (b : List ℕ) (part cells : ℕ) : Type 0 where
+  pub same : partsIn s f at part (last - part) cells b ≡ partsIn s f at k (last - k) n b₀
+  pub order : part ≤ last
+  pub number : cells + (last - part) ≡ n + (last - k)
+  pub size : length b ≡ length b₀
+
+module _ (s : List ℕ) (f : Field) (at k last : ℕ) (b₀ : List ℕ) (n : ℕ) where
+  pub written-first : k ≤ last → Written s f at k last b₀ n b₀ k n
+  written-first l = record { same = refl; order = l; number = refl; size = refl }
+
+  module _ (b : List ℕ) (part cells : ℕ) (inv : Written s f at k last b₀ n b part cells) where
+    pub written-next : {d : List ℕ} → part < last → d ≡ sets b (4 * cells) (wordsOf (cellOf s f at part)) → Written s f at k last b₀ n d (part + 1) (cells + 1)
+    unfolding partsIn
+    written-next {d} l e = record {
+      same =
+          ap (partsIn s f at (part + 1) (last - (part + 1)) (cells + 1)) e
+          ∙ (let i : suc (last - (part + 1)) ≡ last - part = omega arith in ap (λ (j : ℕ). partsIn s f at part j cells b) i) ∙ inv .same;
+      order = omega arith;
+      number = let i = inv .number in omega arith;
+      size = ap length e ∙ length-sets b (4 * cells) (wordsOf (cellOf s f at part)) ∙ inv .size;
+    }
+
+    pub written-all : last ≤ part → b ≡ partsIn s f at k (last - k) n b₀
+    unfolding partsIn
+    written-all l = (let i : zero ≡ last - part = omega arith in ap (λ (j : ℕ). partsIn s f at part j cells b) i) ∙ inv .same
+
+    pub part-room : PartsRoom s f at k last b₀ n → part < last → PartRoom s f at part b cells
+    part-room r l =
+        let i = inv .number in let j = inv .size in
+        let o : part * partOf f + partOf f ≤ last * partOf f = rw suc-mul at (mul-le-mul-right (partOf f) l) in
+        (omega arith, omega arith, omega arith)
+
+-- ---- a multiple record
+module _ (s : List ℕ) (h : Shape) (at z k n room count : ℕ) (b : List ℕ) (counted : count ≡ countOf h s at z) where
+  pub many-none : count ≤ k → Put s h at z k n room b count 0 b
+  unfolding partsIn
+  many-none l = record { counted = counted; within = omega arith; some = λ i. absurd (omega arith); fits = omega arith; words = let i : 0 - k ≡ zero = omega arith in ap (λ (j : ℕ). partsIn s (fieldOf h) at k j n b) (sym i) }
+
+  pub many-put : (last : ℕ) {d : List ℕ} → k < last → last ≤ count → last - k ≤ room → d ≡ partsIn s (fieldOf h) at k (last - k) n b → Put s h at z k n room b count last d
+  many-put last l i f e = record { counted = counted; within = i; some = λ _. l; fits = f; words = e }
+
+pub parts-fit : (s : List ℕ) (f : Field) (at z k n room count last : ℕ) (b : List ℕ) → count ≡ multiple s at z (partOf f) → at + 4 + z ≤ length s → k < last → last ≤ count → last - k ≤ room → 4 * (n + room) ≤ length b → PartsRoom s f at k last b n
+unfolding firstAt
+parts-fit s f at z k n room count last b is body order within fits words =
+    let m = multiple-below s at z (partOf f) count (count - 1) is (omega arith) in
+    let o : last * partOf f ≤ count * partOf f = mul-le-mul-right (partOf f) within in
+    (omega arith, omega arith, omega arith, omega arith)
+
+-- ---- any record
+module _ (s : List ℕ) (at z t j k n room : ℕ) (b : List ℕ) {count last : ℕ} {d : List ℕ} (e : t ≡ j) where
+  pub one-typed : 0 < room → Put s (shapeOf j) at z k n 1 b count last d → Put s (shapeOf t) at z k n room b count last d
+  one-typed l p = subst (λ (m : ℕ). Put s (shapeOf m) at z k n room b count last d) (sym e) (record { counted = p .counted; within = p .within; some = p .some; fits = let f = p .fits in omega arith; words = p .words })
+
+pub put-other : (s : List ℕ) (at z t k n room : ℕ) (b : List ℕ) → shapeOf t ≡ OTHER → Put s (shapeOf t) at z k n room b 0 0 b
+unfolding partsIn
+put-other s at z t k n room b e = record { counted = rw e refl; within = omega arith; some = λ l. absurd (omega arith); fits = omega arith; words = let i : 0 - k ≡ zero = omega arith in ap (λ (j : ℕ). partsIn s (fieldOf (shapeOf t)) at k j n b) (sym i) }
+
+pub put-typed : (s : List ℕ) (at z t j k n room : ℕ) (b : List ℕ) {count last : ℕ} {d : List ℕ} → t ≡ j → Put s (shapeOf j) at z k n room b count last d → Put s (shapeOf t) at z k n room b count last d
+put-typed s at z t j k n room b {count} {last} {d} e p = subst (λ (m : ℕ). Put s (shapeOf m) at z k n room b count last d) (sym e) p

@@ -1,0 +1,82 @@
+-- What a value field says, in words, and a cell's four words. Assumes nothing.
+use Prim.Native.Nat.{ℕ, _+_, _*_, _%_, _/_, _^_, _<_}
+use mathlib.Core.Path.{_≡_, refl, ap, sym, _∙_}
+use mathlib.Core.List.{List, [], _∷_}
+use native.Mathlib.Omega.{arith}
+use lib.ListN.{length}
+use lib.Seq.{sets}
+use Rattle.walk.proofs.Choice.{pick-eq, pick-ne, pick-any, pick-by}
+use Rattle.le.specs.Bytes.{u16At, numAt}
+use Rattle.number.specs.Float64.{isNanBits}
+use Rattle.number.proofs.Laws.{bits-of-float}
+use Rattle.number.specs.declared.Rk.{Rk}
+use Rattle.number.specs.Rk.{rkOf}
+use Rattle.value.specs.declared.Field.{Field}
+use Rattle.value.specs.declared.Field.the-variants.{NoField, Float, RkWord, TruthError}
+use Rattle.value.specs.declared.CellValue.{CellValue}
+use Rattle.value.specs.declared.CellValue.the-variants.{Truth, Error}
+use Rattle.value.specs.Value.{widthOf, floatValue, rkValue, truthError, valueOf}
+use Rattle.cell.specs.Cells.{partOf, startOf, rowAt, firstAt, fieldAt, tokensAt, cellFrom, cellOf}
+use Rattle.batch.specs.Batch.{valueKind, valueWord, wordsOf}
+
+-- ---- what a value field says, in words
+module _ (word : ℕ) {r x : Rk} (i : r ≡ rkOf word) (j : r ≡ x) where
+  pub rk-kind-is : {k : ℕ} → k ≡ valueKind (rkValue x) → k ≡ valueKind (valueOf RkWord word)
+  rk-kind-is h = h ∙ ap (λ (y : Rk). valueKind (rkValue y)) (sym j ∙ i)
+
+  pub rk-word-is : {k : ℕ} → k ≡ valueWord (rkValue x) → k ≡ valueWord (valueOf RkWord word)
+  rk-word-is h = h ∙ ap (λ (y : Rk). valueWord (rkValue y)) (sym j ∙ i)
+
+pub float-kind : (b : ℕ) → 1 ≡ valueKind (valueOf Float b)
+unfolding floatValue
+float-kind b = pick-any (λ (v : CellValue). 1 ≡ valueKind v) (isNanBits b) refl refl
+
+pub float-word : (b : ℕ) → b < 2 ^ 64 → b ≡ valueWord (valueOf Float b)
+unfolding floatValue
+float-word b h =
+    pick-by (λ (v : CellValue). b ≡ valueWord v) (isNanBits b) (λ _. refl) (λ e. sym (bits-of-float b h e))
+
+module _ (n : ℕ) where
+  pub truth-kind : n / 256 ≡ 0 → 3 ≡ valueKind (valueOf TruthError n)
+  unfolding truthError
+  truth-kind e = ap valueKind (pick-eq (Truth (n % 256)) _ _ (n / 256) 0 e refl)
+
+  pub truth-word : n / 256 ≡ 0 → n % 256 ≡ valueWord (valueOf TruthError n)
+  unfolding truthError
+  truth-word e = ap valueWord (pick-eq (Truth (n % 256)) _ _ (n / 256) 0 e refl)
+
+  pub error-kind : (n / 256 ≡ 0 → ⊥) → 4 ≡ valueKind (valueOf TruthError n)
+  unfolding truthError
+  error-kind e = ap valueKind (pick-ne (Error (n % 256)) _ _ (n / 256) 0 e refl)
+
+  pub error-word : (n / 256 ≡ 0 → ⊥) → n % 256 ≡ valueWord (valueOf TruthError n)
+  unfolding truthError
+  error-word e = ap valueWord (pick-ne (Error (n % 256)) _ _ (n / 256) 0 e refl)
+
+pub ruleset byte-laws = (truth-kind, truth-word, error-kind, error-word)
+
+-- ---- a cell's four words, from what was read of it
+module _ (s : List ℕ) (f : Field) (n : ℕ) (b : List ℕ) where
+  from-words : (row column q m format kind word field size head : ℕ) (d : List ℕ) → format ≡ u16At s q → m ≡ numAt s (widthOf f) (q + startOf f) → kind ≡ valueKind (valueOf f m) → word ≡ valueWord (valueOf f m) → field ≡ q + startOf f → size ≡ tokensAt f s q .length
+      → head ≡ row + column * 65536 + format * 4294967296 + kind * 281474976710656 → d ≡ sets b (4 * n) (head ∷ word ∷ field ∷ size ∷ []) → d ≡ sets b (4 * n) (wordsOf (cellFrom f s row column q))
+  unfolding cellFrom fieldAt
+  from-words row column q m format kind word field size head d o u i w p t h e =
+      let k = i ∙ ap (λ (x : ℕ). valueKind (valueOf f x)) u in
+      let c = w ∙ ap (λ (x : ℕ). valueWord (valueOf f x)) u in
+      e ∙ ap (sets b (4 * n)) (λ j. (h ∙ (λ y. row + column * 65536 + o y * 4294967296 + k y * 281474976710656)) j ∷ c j ∷ p j ∷ t j ∷ [])
+
+  pub written : (at k row column q m format kind word field size head : ℕ) (d : List ℕ) → row ≡ u16At s (at + 4) → column ≡ u16At s (at + 6) + k → q ≡ at + 8 + k * partOf f → format ≡ u16At s q → m ≡ numAt s (widthOf f) (q + startOf f) → kind ≡ valueKind (valueOf f m) → word ≡ valueWord (valueOf f m)
+      → field ≡ q + startOf f → size ≡ tokensAt f s q .length → head ≡ row + column * 65536 + format * 4294967296 + kind * 281474976710656 → d ≡ sets b (4 * n) (head ∷ word ∷ field ∷ size ∷ []) → d ≡ sets b (4 * n) (wordsOf (cellOf s f at k))
+  unfolding cellOf rowAt firstAt
+  written at k row column q m format kind word field size head d r c g o u i w p t h e =
+      from-words row column q m format kind word field size head d o u i w p t h e ∙ ap (sets b (4 * n)) (λ j. wordsOf (cellFrom f s (r j) (c j) (g j)))
+
+module _ (s : List ℕ) (at k n : ℕ) (b : List ℕ) {row first w format head : ℕ} {d : List ℕ} (r : row ≡ u16At s (at + 4)) (c : first ≡ u16At s (at + 6)) (wide : w ≡ k) where
+  pub rk-written : {kind word number : ℕ} → format ≡ u16At s (at + 8 + w * 6) → number ≡ numAt s 4 (at + 8 + w * 6 + 2) → kind ≡ valueKind (valueOf RkWord number) → word ≡ valueWord (valueOf RkWord number)
+      → head ≡ row + (first + k) * 65536 + format * 4294967296 + kind * 281474976710656 → d ≡ sets b (4 * n) (head ∷ word ∷ (at + 8 + w * 6 + 2) ∷ 0 ∷ []) → d ≡ sets b (4 * n) (wordsOf (cellOf s RkWord at k))
+  rk-written {kind} {word} {number} o u i x h e =
+      written s RkWord n b at k row (first + k) (at + 8 + w * 6) number format kind word (at + 8 + w * 6 + 2) 0 head d r (ap (λ (y : ℕ). y + k) c) (ap (λ (y : ℕ). at + 8 + y * 6) wide) o u i x refl refl h e
+
+  pub blank-written : format ≡ u16At s (at + 8 + w * 2) → head ≡ row + (first + k) * 65536 + format * 4294967296 + 0 * 281474976710656 → d ≡ sets b (4 * n) (head ∷ 0 ∷ (at + 8 + w * 2) ∷ 0 ∷ []) → d ≡ sets b (4 * n) (wordsOf (cellOf s NoField at k))
+  blank-written o h e =
+      written s NoField n b at k row (first + k) (at + 8 + w * 2) _ format 0 0 (at + 8 + w * 2) 0 head d r (ap (λ (y : ℕ). y + k) c) (ap (λ (y : ℕ). at + 8 + y * 2) wide) o refl refl refl (omega arith) refl h e

@@ -1,0 +1,510 @@
+// Cells in words, four a cell, as many at a time as a lent slice has room for: for those who take a listing across a border.
+ghost use mathlib.Core.Path.{_≡_};
+ghost use Prim.Native.Nat.{_+_, _-_, _*_, _≤_, _<_};
+ghost use lib.ListN.{length};
+ghost use Rattle.le.specs.Bytes.{u16At};
+ghost use Rattle.record.specs.Record.{headerAt};
+ghost use Rattle.value.specs.Value.{valueOf};
+ghost use Rattle.cell.specs.Cells.{shapeOf, fieldOf, countOf, cellOf};
+ghost use Rattle.reading.specs.Cells.{otherItem};
+ghost use Rattle.batch.specs.Parts.{oneWords, partsIn, PartRoom, PartsRoom, Put, spotIn, pastStep, Stepped};
+ghost use Rattle.batch.specs.Batch.{resultKind, valueKind, resultWord, valueWord, wordsOf, filledSeen, filledFrom};
+ghost use lib.Seq.{sets};
+ghost use mathlib.Core.List.{[], _∷_};
+use cell::Shape;
+use number::Rk;
+use reading::Outside;
+use reading::Place;
+use record::Header;
+use value::Field;
+use value::FormulaResult;
+
+// How many cells were written; whether the list ended, or where it goes on.
+pub struct Filled {
+    pub cells: usize,
+    pub ended: bool,
+    pub place: Place,
+}
+
+// ---- what a value field says, in words: its kind and its word
+
+struct Said {
+    kind: u8,
+    word: u64,
+}
+
+fn nothing_said() -> Said
+    ensures { λ x. ⌜ (x .kind ≡ 0) × (x .word ≡ 0) ⌝ }
+{
+    Said { kind: 0, word: 0 }
+}
+
+fn float_said(bits: u64) -> Said
+    ensures { λ x. ⌜ (x .kind ≡ valueKind (valueOf Field.Float bits)) × (x .word ≡ valueWord (valueOf Field.Float bits)) ⌝ }
+{
+    Said {
+        kind: 1,
+        word: bits,
+    }
+}
+
+fn rk_said(word: u32) -> Said
+    ensures { λ x. ⌜ (x .kind ≡ valueKind (valueOf Field.RkWord word)) × (x .word ≡ valueWord (valueOf Field.RkWord word)) ⌝ }
+{
+    match number::decode(word) {
+        Rk::Number(x) => Said {
+            kind: 1,
+            word: number::bits_of(x),
+        },
+        Rk::Nothing => Said { kind: 0, word: 0 },
+    }
+}
+
+fn text_said(index: u32) -> Said
+    ensures { λ x. ⌜ (x .kind ≡ valueKind (valueOf Field.TextIndex index)) × (x .word ≡ valueWord (valueOf Field.TextIndex index)) ⌝ }
+{
+    Said {
+        kind: 2,
+        word: le::u32_as_u64(index),
+    }
+}
+
+fn truth_error_said(n: u16) -> Said
+    ensures { λ x. ⌜ (x .kind ≡ valueKind (valueOf Field.TruthError n)) × (x .word ≡ valueWord (valueOf Field.TruthError n)) ⌝ }
+{
+    if n >> 8 == 0 {
+        return Said {
+            kind: 3,
+            word: (n % 256) as u64,
+        };
+    }
+    Said {
+        kind: 4,
+        word: (n % 256) as u64,
+    }
+}
+
+fn result_said(r: FormulaResult) -> Said
+    ensures { λ x. ⌜ (x .kind ≡ resultKind r) × (x .word ≡ resultWord r) ⌝ }
+{
+    match r {
+        FormulaResult::Number(x) => Said {
+            kind: 5,
+            word: number::bits_of(x),
+        },
+        FormulaResult::NotNumber(bits) => Said {
+            kind: 5,
+            word: bits,
+        },
+        FormulaResult::Text => Said { kind: 6, word: 0 },
+        FormulaResult::Truth(truth) => Said {
+            kind: 7,
+            word: le::byte_as_u64(truth),
+        },
+        FormulaResult::Error(code) => Said {
+            kind: 8,
+            word: le::byte_as_u64(code),
+        },
+        FormulaResult::Empty => Said { kind: 9, word: 0 },
+    }
+}
+
+// ---- four words for a cell
+
+fn head_word(row: u16, column: u16, format: u16, kind: u8) -> u64
+    ensures { λ w. ⌜ w ≡ row + column * 65536 + format * 4294967296 + kind * 281474976710656 ⌝ }
+{
+    le::u16_as_u64(row)
+        + le::u16_as_u64(column) * 65536
+        + le::u16_as_u64(format) * 4294967296
+        + le::byte_as_u64(kind) * 281474976710656
+}
+
+fn put_four(words: &mut [u64], at: usize, a: u64, b: u64, c: u64, d: u64)
+    requires { ⌜ at + 4 ≤ length (now words) ⌝ }
+    ensures { λ _. ⌜ now (words .exit) ≡ sets (now (words .entry)) at (a ∷ b ∷ c ∷ d ∷ []) ⌝ }
+{
+    words[at] = a;
+    words[at + 1] = b;
+    words[at + 2] = c;
+    words[at + 3] = d;
+}
+
+// The one cell of the record at `at`, after the n cells that the words have.
+fn put_one(s: &[u8], at: usize, said: Said, field: usize, tokens: u16, words: &mut [u64], n: usize)
+    requires { ⌜ (at + 10 ≤ length (now s)) × (4 * n + 4 ≤ length (now words)) ⌝ }
+    ensures { λ _. ⌜ now (words .exit) ≡ sets (now (words .entry)) (4 * n) (oneWords (now (s .entry)) at said field tokens) ⌝ }
+{
+    let head = head_word(
+        le::u16_at(s, at + 4),
+        le::u16_at(s, at + 6),
+        le::u16_at(s, at + 8),
+        said.kind,
+    );
+    put_four(
+        words,
+        4 * n,
+        head,
+        said.word,
+        field as u64,
+        le::u16_as_u64(tokens),
+    );
+}
+
+// ---- the records of one cell: how many cells there are, and up to which they have been written, from the k-th on
+
+struct Done {
+    count: u16,
+    last: u16,
+}
+
+fn put_blank_cell(s: &[u8], at: usize, size: usize, k: u16, words: &mut [u64], n: usize) -> Done
+    requires { ⌜ (at + 4 + size ≤ length (now s)) × (4 * n + 4 ≤ length (now words)) ⌝ }
+    ensures { λ r. ⌜ Put (now (s .entry)) Shape.BLANK at size k n 1 (now (words .entry)) (r .count) (r .last) (now (words .exit)) ⌝ }
+{
+    if size != 6 {
+        return Done { count: 0, last: 0 };
+    }
+    if k != 0 {
+        return Done { count: 1, last: 1 };
+    }
+    let q = at + 8;
+    put_one(s, at, nothing_said(), q, 0, words, n);
+    Done { count: 1, last: 1 }
+}
+
+fn put_number(s: &[u8], at: usize, size: usize, k: u16, words: &mut [u64], n: usize) -> Done
+    requires { ⌜ (at + 4 + size ≤ length (now s)) × (4 * n + 4 ≤ length (now words)) ⌝ }
+    ensures { λ r. ⌜ Put (now (s .entry)) Shape.NUMBER at size k n 1 (now (words .entry)) (r .count) (r .last) (now (words .exit)) ⌝ }
+{
+    if size != 14 {
+        return Done { count: 0, last: 0 };
+    }
+    if k != 0 {
+        return Done { count: 1, last: 1 };
+    }
+    let q = at + 8;
+    put_one(s, at, float_said(le::u64_at(s, q + 2)), q + 2, 0, words, n);
+    Done { count: 1, last: 1 }
+}
+
+fn put_rk_cell(s: &[u8], at: usize, size: usize, k: u16, words: &mut [u64], n: usize) -> Done
+    requires { ⌜ (at + 4 + size ≤ length (now s)) × (4 * n + 4 ≤ length (now words)) ⌝ }
+    ensures { λ r. ⌜ Put (now (s .entry)) Shape.RK at size k n 1 (now (words .entry)) (r .count) (r .last) (now (words .exit)) ⌝ }
+{
+    if size != 10 {
+        return Done { count: 0, last: 0 };
+    }
+    if k != 0 {
+        return Done { count: 1, last: 1 };
+    }
+    let q = at + 8;
+    put_one(s, at, rk_said(le::u32_at(s, q + 2)), q + 2, 0, words, n);
+    Done { count: 1, last: 1 }
+}
+
+fn put_text(s: &[u8], at: usize, size: usize, k: u16, words: &mut [u64], n: usize) -> Done
+    requires { ⌜ (at + 4 + size ≤ length (now s)) × (4 * n + 4 ≤ length (now words)) ⌝ }
+    ensures { λ r. ⌜ Put (now (s .entry)) Shape.LABELSST at size k n 1 (now (words .entry)) (r .count) (r .last) (now (words .exit)) ⌝ }
+{
+    if size != 10 {
+        return Done { count: 0, last: 0 };
+    }
+    if k != 0 {
+        return Done { count: 1, last: 1 };
+    }
+    let q = at + 8;
+    put_one(s, at, text_said(le::u32_at(s, q + 2)), q + 2, 0, words, n);
+    Done { count: 1, last: 1 }
+}
+
+fn put_truth_error(s: &[u8], at: usize, size: usize, k: u16, words: &mut [u64], n: usize) -> Done
+    requires { ⌜ (at + 4 + size ≤ length (now s)) × (4 * n + 4 ≤ length (now words)) ⌝ }
+    ensures { λ r. ⌜ Put (now (s .entry)) Shape.BOOLERR at size k n 1 (now (words .entry)) (r .count) (r .last) (now (words .exit)) ⌝ }
+{
+    if size != 8 {
+        return Done { count: 0, last: 0 };
+    }
+    if k != 0 {
+        return Done { count: 1, last: 1 };
+    }
+    let q = at + 8;
+    put_one(
+        s,
+        at,
+        truth_error_said(le::u16_at(s, q + 2)),
+        q + 2,
+        0,
+        words,
+        n,
+    );
+    Done { count: 1, last: 1 }
+}
+
+fn put_formula(s: &[u8], at: usize, size: usize, k: u16, words: &mut [u64], n: usize) -> Done
+    requires { ⌜ (at + 4 + size ≤ length (now s)) × (4 * n + 4 ≤ length (now words)) ⌝ }
+    ensures { λ r. ⌜ Put (now (s .entry)) Shape.FORMULA at size k n 1 (now (words .entry)) (r .count) (r .last) (now (words .exit)) ⌝ }
+{
+    if size < 22 {
+        return Done { count: 0, last: 0 };
+    }
+    let q = at + 8;
+    let length = le::u16_at(s, q + 16);
+    if size < 22 + le::u16_as_usize(length) {
+        return Done { count: 0, last: 0 };
+    }
+    if k != 0 {
+        return Done { count: 1, last: 1 };
+    }
+    let said = result_said(value::result_value(le::u64_at(s, q + 2)));
+    put_one(s, at, said, q + 2, length, words, n);
+    Done { count: 1, last: 1 }
+}
+
+// ---- the cells of a multiple record, whose header is at `at`: they stand in one row and are written by one loop
+
+// The k-th cell, in this row, after the n cells that the words have; `first` is the record's first column.
+fn put_rk(s: &[u8], at: usize, row: u16, first: u16, k: u16, words: &mut [u64], n: usize)
+    requires { ⌜ (row ≡ u16At (now s) (at + 4)) × (first ≡ u16At (now s) (at + 6)) × PartRoom (now s) Field.RkWord at k (now words) n ⌝ }
+    ensures { λ _. ⌜ now (words .exit) ≡ sets (now (words .entry)) (4 * n) (wordsOf (cellOf (now (s .entry)) Field.RkWord at k)) ⌝ }
+{
+    let q = at + 8 + le::u16_as_usize(k) * 6;
+    let said = rk_said(le::u32_at(s, q + 2));
+    let head = head_word(row, first + k, le::u16_at(s, q), said.kind);
+    put_four(words, 4 * n, head, said.word, (q + 2) as u64, 0);
+}
+
+fn put_blank(s: &[u8], at: usize, row: u16, first: u16, k: u16, words: &mut [u64], n: usize)
+    requires { ⌜ (row ≡ u16At (now s) (at + 4)) × (first ≡ u16At (now s) (at + 6)) × PartRoom (now s) Field.NoField at k (now words) n ⌝ }
+    ensures { λ _. ⌜ now (words .exit) ≡ sets (now (words .entry)) (4 * n) (wordsOf (cellOf (now (s .entry)) Field.NoField at k)) ⌝ }
+{
+    let q = at + 8 + le::u16_as_usize(k) * 2;
+    let head = head_word(row, first + k, le::u16_at(s, q), 0);
+    put_four(words, 4 * n, head, 0, q as u64, 0);
+}
+
+// The cells from the k-th up to the last-th, without it.
+fn rk_parts(s: &[u8], at: usize, k: u16, last: u16, words: &mut [u64], n: usize)
+    requires { ⌜ PartsRoom (now s) Field.RkWord at k last (now words) n ⌝ }
+    ensures { λ _. ⌜ now (words .exit) ≡ partsIn (now (s .entry)) Field.RkWord at k (last - k) n (now (words .entry)) ⌝ }
+{
+    let row = le::u16_at(s, at + 4);
+    let first = le::u16_at(s, at + 6);
+    let mut part = k;
+    let mut cells = n;
+    while part < last {
+        put_rk(s, at, row, first, part, words, cells);
+        part += 1;
+        cells += 1;
+    }
+}
+
+fn blank_parts(s: &[u8], at: usize, k: u16, last: u16, words: &mut [u64], n: usize)
+    requires { ⌜ PartsRoom (now s) Field.NoField at k last (now words) n ⌝ }
+    ensures { λ _. ⌜ now (words .exit) ≡ partsIn (now (s .entry)) Field.NoField at k (last - k) n (now (words .entry)) ⌝ }
+{
+    let row = le::u16_at(s, at + 4);
+    let first = le::u16_at(s, at + 6);
+    let mut part = k;
+    let mut cells = n;
+    while part < last {
+        put_blank(s, at, row, first, part, words, cells);
+        part += 1;
+        cells += 1;
+    }
+}
+
+// Where the parts from the k-th on end: at the last of `count`, or where `room` is full.
+fn last_part(k: u16, count: u16, room: usize) -> u16
+    requires { ⌜ (k < count) × (0 < room) ⌝ }
+    ensures { λ r. ⌜ (k < r) × (r ≤ count) × (r - k ≤ room) ⌝ }
+{
+    let left = count - k;
+    if le::u16_as_usize(left) <= room {
+        return count;
+    }
+    k + room as u16
+}
+
+fn put_many_rk(
+    s: &[u8],
+    at: usize,
+    size: usize,
+    k: u16,
+    words: &mut [u64],
+    n: usize,
+    room: usize,
+) -> Done
+    requires { ⌜ (at + 4 + size ≤ length (now s)) × (0 < room) × (4 * (n + room) ≤ length (now words)) ⌝ }
+    ensures { λ r. ⌜ Put (now (s .entry)) Shape.MULRK at size k n room (now (words .entry)) (r .count) (r .last) (now (words .exit)) ⌝ }
+{
+    let count = cell::multiple(s, at, size, 6);
+    if count <= k {
+        return Done { count, last: 0 };
+    }
+    let last = last_part(k, count, room);
+    rk_parts(s, at, k, last, words, n);
+    Done { count, last }
+}
+
+fn put_many_blanks(
+    s: &[u8],
+    at: usize,
+    size: usize,
+    k: u16,
+    words: &mut [u64],
+    n: usize,
+    room: usize,
+) -> Done
+    requires { ⌜ (at + 4 + size ≤ length (now s)) × (0 < room) × (4 * (n + room) ≤ length (now words)) ⌝ }
+    ensures { λ r. ⌜ Put (now (s .entry)) Shape.MULBLANK at size k n room (now (words .entry)) (r .count) (r .last) (now (words .exit)) ⌝ }
+{
+    let count = cell::multiple(s, at, size, 2);
+    if count <= k {
+        return Done { count, last: 0 };
+    }
+    let last = last_part(k, count, room);
+    blank_parts(s, at, k, last, words, n);
+    Done { count, last }
+}
+
+// ---- any record: one choice by its type, for all that is done with it
+
+fn put_record(
+    s: &[u8],
+    at: usize,
+    kind: u16,
+    size: usize,
+    k: u16,
+    words: &mut [u64],
+    n: usize,
+    room: usize,
+) -> Done
+    requires { ⌜ (at + 4 + size ≤ length (now s)) × (0 < room) × (4 * (n + room) ≤ length (now words)) ⌝ }
+    ensures { λ r. ⌜ Put (now (s .entry)) (shapeOf kind) at size k n room (now (words .entry)) (r .count) (r .last) (now (words .exit)) ⌝ }
+{
+    match kind {
+        0x0201 => put_blank_cell(s, at, size, k, words, n),
+        0x0203 => put_number(s, at, size, k, words, n),
+        0x027E => put_rk_cell(s, at, size, k, words, n),
+        0x00FD => put_text(s, at, size, k, words, n),
+        0x0205 => put_truth_error(s, at, size, k, words, n),
+        0x00BD => put_many_rk(s, at, size, k, words, n, room),
+        0x00BE => put_many_blanks(s, at, size, k, words, n, room),
+        0x0006 => put_formula(s, at, size, k, words, n),
+        _ => Done { count: 0, last: 0 },
+    }
+}
+
+// A place in the record: at its end, the next record.
+fn spot(at: usize, end: usize, count: u16, k: u16) -> Place
+    ensures { λ r. ⌜ r ≡ spotIn at end count k ⌝ }
+{
+    if count <= k {
+        return Place {
+            at: end,
+            part: 0,
+            level: 0,
+        };
+    }
+    Place {
+        at,
+        part: k,
+        level: 0,
+    }
+}
+
+// A step of a listing: how far it came, or its end.
+enum Advance {
+    On { place: Place, cells: usize },
+    End,
+}
+
+// Past a record that has no cell here.
+fn step_past(v: Place, kind: u16, end: usize, n: usize) -> Advance
+    ensures { λ r. ⌜ r ≡ pastStep n (otherItem v kind end) ⌝ }
+{
+    match reading::past_record(kind, v.level, end) {
+        Outside::Next { at, level } => Advance::On {
+            place: Place { at, part: 0, level },
+            cells: n,
+        },
+        Outside::End => Advance::End,
+    }
+}
+
+fn step_record(
+    s: &[u8],
+    v: Place,
+    kind: u16,
+    size: usize,
+    end: usize,
+    words: &mut [u64],
+    n: usize,
+    room: usize,
+) -> Advance
+    requires { ⌜ (headerAt (now s) (v .at) ≡ Header.Record kind size end) × (v .at + 4 + size ≤ length (now s)) × (n < room) × (4 * room ≤ length (now words)) ⌝ }
+    ensures { λ r. ⌜ Stepped (now (s .entry)) room v n (now (words .entry)) (now (words .exit)) r ⌝ }
+{
+    if v.level != 0 {
+        return step_past(v, kind, end, n);
+    }
+    let at = v.at;
+    let k = v.part;
+    let done = put_record(s, at, kind, size, k, words, n, room - n);
+    let last = done.last;
+    if last <= k {
+        return step_past(v, kind, end, n);
+    }
+    Advance::On {
+        place: spot(at, end, done.count, last),
+        cells: n + le::u16_as_usize(last - k),
+    }
+}
+
+fn step(s: &[u8], v: Place, words: &mut [u64], n: usize, room: usize) -> Advance
+    requires { ⌜ (n < room) × (4 * room ≤ length (now words)) ⌝ }
+    ensures { λ r. ⌜ Stepped (now (s .entry)) room v n (now (words .entry)) (now (words .exit)) r ⌝ }
+{
+    match record::header_at(s, v.at) {
+        Header::Record { kind, size, end } => step_record(s, v, kind, size, end, words, n, room),
+        Header::Cut => Advance::End,
+        Header::End => Advance::End,
+    }
+}
+
+// The next cells from a place on, as many as there is room for. Like `next_cell` it doesn't check the stream and has an answer for all bytes and places.
+pub fn fill(s: &[u8], from: Place, words: &mut [u64]) -> Filled
+    ensures { λ r. ⌜ r ≡ filledSeen (filledFrom (now (s .entry)) from (now (words .entry))) ⌝ }
+    ensures { λ r. ⌜ now (words .exit) ≡ filledFrom (now (s .entry)) from (now (words .entry)) .words ⌝ }
+{
+    let room = words.len() / 4;
+    let mut v = from;
+    let mut n: usize = 0;
+    loop {
+        if n >= room {
+            return Filled {
+                cells: n,
+                ended: false,
+                place: v,
+            };
+        }
+        match step(s, v, words, n, room) {
+            Advance::On { place, cells } => {
+                v = place;
+                n = cells;
+            }
+            Advance::End => {
+                return Filled {
+                    cells: n,
+                    ended: true,
+                    place: Place {
+                        at: 0,
+                        part: 0,
+                        level: 0,
+                    },
+                };
+            }
+        }
+    }
+}
