@@ -36,7 +36,6 @@ use Rattle.reading.specs.Reading.{onName, nameAt, widthAt, typeAt, startBy, sta
 use Rattle.reading.proofs.Laws.{count-small, found-there, cell-here, item-near, listed-step}
 use Rattle.listing.specs.declared.Description.{Description}
 use Rattle.listing.specs.declared.Description.the-variants as description
-use Rattle.listing.specs.declared.SheetList.the-variants as sheetList
 use Rattle.listing.specs.declared.Start.{Start}
 use Rattle.listing.specs.declared.Start.the-variants as start
 use Rattle.listing.specs.declared.Listed.{Listed}
@@ -45,7 +44,7 @@ use Rattle.listing.specs.declared.Step.{Step}
 use Rattle.listing.specs.declared.Step.the-variants as step
 use Rattle.listing.specs.declared.Sought.{Sought}
 use Rattle.listing.specs.declared.Sought.the-variants as sought
-use Rattle.listing.specs.Listing.{sheetOf, nameOf, sheetListOf, cellsOf, onItem, nextOf, tokensIn}
+use Rattle.listing.specs.Listing.{sheetOf, nameOf, firstSheet, cellsOf, onItem, nextOf, tokensIn}
 use Rattle.listing.specs.Parts.{itemOf, foundSheet, SoughtWithin}
 
 -- ---- one step
@@ -312,17 +311,7 @@ module _ (s : List ℕ) (n : ℕ) {r : Checked} (is : r ≡ checkedOf s 0) where
     unfolding nameOf
     name-there o p k l j e = e ∙ answered (λ _ _. []) (toName s) s n is b h i j
 
--- where the sheet list starts
-module _ (s : List ℕ) {r : Checked} (is : r ≡ checkedOf s 0) where
-  pub list-wrong : (m o : ℕ) → r ≡ Wrong m o → sheetList.Refused m o ≡ sheetListOf s
-  unfolding sheetListOf
-  list-wrong m o h = ap (onChecked sheetList.Refused (λ _. sheetList.At 20)) (sym h ∙ is)
-
-  pub list-right : (b : Globals) → r ≡ Right b → sheetList.At 20 ≡ sheetListOf s
-  unfolding sheetListOf
-  list-right b h = ap (onChecked sheetList.Refused (λ _. sheetList.At 20)) (sym h ∙ is)
-
-pub ruleset question-laws = (sheet-wrong, sheet-absent, sheet-there, list-wrong, list-right, cells-wrong, cells-absent, cells-there, name-wrong, name-absent, name-there)
+pub ruleset question-laws = (sheet-wrong, sheet-absent, sheet-there, cells-wrong, cells-absent, cells-there, name-wrong, name-absent, name-there)
 
 -- ---- where the walks start is where the reading's lists do
 module _ (s : List ℕ) where
@@ -341,14 +330,9 @@ module _ (s : List ℕ) where
   unfolding cellsOf
   cells-listed n v h = cells-by v n (checkedOf s 0) h
 
-  sheets-by-check : (p : ℕ) (r : Checked) → onChecked sheetList.Refused (λ _. sheetList.At 20) r ≡ sheetList.At p → sheetsFrom s p ≡ sheetsOf s
-  sheets-by-check p (Right g) h = let e : 20 ≡ p = cc in ap (sheetsFrom s) (sym e)
-  sheets-by-check p (Wrong m o) h = absurd (let z : _≡_ {A = ℕ} 0 1 = cc in omega arith)
-
-  -- from `sheets` on, `next_sheet` gives the sheets of the stream
-  pub sheets-listed : (p : ℕ) → sheetListOf s ≡ sheetList.At p → sheetsFrom s p ≡ sheetsOf s
-  unfolding sheetListOf
-  sheets-listed p h = sheets-by-check p (checkedOf s 0) h
+  -- from `first_sheet` on, `next_sheet` gives the sheets of the stream
+  pub sheets-listed : sheetsFrom s firstSheet ≡ sheetsOf s
+  sheets-listed = refl
 
 -- ---- a formula's tokens
 module _ (s : List ℕ) (c : Cell) (size : ℕ) (is : size ≡ c .tokens .length) where

@@ -18,8 +18,6 @@ use Rattle.reading.specs.Cells.{cellItem, remaining}
 use Rattle.reading.specs.Reading.{nameAt, widthAt, typeAt, startBy, startOf, listedOf, rowsOf}
 use Rattle.listing.specs.declared.Description.{Description}
 use Rattle.listing.specs.declared.Description.the-variants as description
-use Rattle.listing.specs.declared.SheetList.{SheetList}
-use Rattle.listing.specs.declared.SheetList.the-variants as sheetList
 use Rattle.listing.specs.declared.NextSheet.{NextSheet}
 use Rattle.listing.specs.declared.NextSheet.the-variants as nextSheet
 use Rattle.listing.specs.declared.Start.{Start}
@@ -39,8 +37,8 @@ unfoldable pub nameOf : List ℕ → ℕ → List ℕ
 nameOf s n = onChecked (λ _ _. []) (λ _. nth (sheetsOf s) n (λ (x : Sheet). nameAt s (x .header)) []) (checkedOf s 0)
 
 -- ---- the sheets one after the other: the list starts after the globals' BOF
-unfoldable pub sheetListOf : List ℕ → SheetList
-sheetListOf s = onChecked sheetList.Refused (λ _. sheetList.At 20) (checkedOf s 0)
+abbrev pub firstSheet : ℕ
+firstSheet = 20
 
 -- the next sheet from a place of the globals on, where its cells start, and the place after it
 abbrev pub onBound : List ℕ → Bound → Next ℕ NextSheet

@@ -7,7 +7,7 @@ ghost use Rattle.record.specs.Record.{headerAt};
 ghost use Rattle.globals.specs.Sheets.{sheetsOf};
 ghost use Rattle.reading.specs.Cells.{placeAt, otherItem, recordItem, cellItem, listedFrom};
 ghost use Rattle.reading.specs.Reading.{nameAt, widthAt, typeAt, startBy, rowsOf};
-ghost use Rattle.listing.specs.Listing.{sheetOf, nameOf, sheetListOf, nextSheetOf, cellsOf, nextOf, tokensIn};
+ghost use Rattle.listing.specs.Listing.{sheetOf, nameOf, firstSheet, nextSheetOf, cellsOf, nextOf, tokensIn};
 ghost use Rattle.listing.specs.Parts.{itemOf, foundSheet, SoughtWithin, overOther, RowsBy};
 use cell::Cell;
 use cell::Found;
@@ -28,12 +28,6 @@ pub enum Description {
         number: u8,
         offset: usize,
     },
-}
-
-// Where the sheet list starts, or the refusal's number and offset.
-pub enum SheetList {
-    At(usize),
-    Refused { number: u8, offset: usize },
 }
 
 // The next sheet: its BOUNDSHEET, the type and the width that it gives, where the sheet's cells start, and the place after it; or the end of the list.
@@ -384,14 +378,11 @@ pub fn sheet(s: &[u8], n: u32) -> Description
     }
 }
 
-// Where the sheet list starts, for `next_sheet`.
-pub fn sheets(s: &[u8]) -> SheetList
-    ensures { λ r. ⌜ r ≡ sheetListOf (now (s .entry)) ⌝ }
+// Where the sheet list starts, for `next_sheet`: after the globals' BOF. Whoever has checked the stream needs no second check.
+pub fn first_sheet() -> usize
+    ensures { λ r. ⌜ r ≡ firstSheet ⌝ }
 {
-    match workbook::check_with(s, 0) {
-        Checked::Wrong { number, offset } => SheetList::Refused { number, offset },
-        Checked::Right(_) => SheetList::At(20),
-    }
+    20
 }
 
 // The next sheet from a place on. Like `next_cell` it doesn't check the stream, has an answer for all bytes and places, and comes nearer the end.

@@ -10,7 +10,6 @@ use libc::STDIN_FILENO;
 use libc::STDOUT_FILENO;
 use listing::Listed;
 use listing::NextSheet;
-use listing::SheetList;
 use reading::Place;
 use value::CellValue;
 use value::FormulaResult;
@@ -337,10 +336,9 @@ fn print(s: &[u8]) {
     }
     match workbook::check(s) {
         Answer::Refused { number, offset } => print_refused(number, offset),
-        Answer::Passed { sheets, strings } => match listing::sheets(s) {
-            SheetList::Refused { number, offset } => print_refused(number, offset),
-            SheetList::At(from) => print_sheets(s, sheets, strings, from),
-        },
+        Answer::Passed { sheets, strings } => {
+            print_sheets(s, sheets, strings, listing::first_sheet())
+        }
     }
 }
 

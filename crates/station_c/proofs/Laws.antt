@@ -16,6 +16,7 @@ use Rattle.change.specs.declared.Answer as change
 use Rattle.change.specs.declared.NewValue.{NewValue}
 use Rattle.correction.specs.Correction.{correctionOf, answerOf, streamAfter}
 use Rattle.strings.specs.declared.Fetched.{Fetched}
+use Rattle.listing.specs.Listing.{firstSheet}
 use Rattle.listing.specs.declared.Start.{Start}
 use Rattle.listing.specs.declared.NextSheet.{NextSheet}
 use Rattle.listing.specs.declared.NextSheet.the-variants as nextSheet
@@ -39,10 +40,10 @@ seen f i j h = h ∙ ap f (sym j ∙ i)
 pub check-wrong : (s : List ℕ) {a r : Checked} {n o : ℕ} {y : Check} → r ≡ a → r ≡ checked.Wrong n o → y ≡ checkSeen s (checked.Wrong n o) → y ≡ checkSeen s a
 check-wrong s = seen (checkSeen s)
 
--- c is the first place and n the number of sheets, as the code has them
-pub check-right : (s : List ℕ) {a r : Checked} {g : Globals} {c : Cursor} {n : ℕ} → r ≡ a → r ≡ checked.Right g → c ≡ firstOf s (g .table) → n ≡ length (sheetsOf s)
-    → _≡_ {A = Check} (record { number = 0; offset = 0; sheets = n; strings = g .unique; sheet = 20; segment = c .seg; at = c .at; end = c .end }) (checkSeen s a)
-check-right s {a} {r} {g} {c} {n} i j k l = seen (checkSeen s) i j (λ m. record { number = 0; offset = 0; sheets = l m; strings = g .unique; sheet = 20; segment = k m .seg; at = k m .at; end = k m .end })
+-- c is the first string's place, p the first sheet's and n the number of sheets, as the code has them
+pub check-right : (s : List ℕ) {a r : Checked} {g : Globals} {c : Cursor} {n p : ℕ} → r ≡ a → r ≡ checked.Right g → c ≡ firstOf s (g .table) → n ≡ length (sheetsOf s) → p ≡ firstSheet
+    → _≡_ {A = Check} (record { number = 0; offset = 0; sheets = n; strings = g .unique; sheet = p; segment = c .seg; at = c .at; end = c .end }) (checkSeen s a)
+check-right s {a} {r} {g} {c} {n} i j k l o = seen (checkSeen s) i j (λ m. record { number = 0; offset = 0; sheets = l m; strings = g .unique; sheet = o m; segment = k m .seg; at = k m .at; end = k m .end })
 
 pub judge-seen : {a r x : Judgement} {y : Answer} → r ≡ a → r ≡ x → y ≡ judgeSeen x → y ≡ judgeSeen a
 judge-seen = seen judgeSeen

@@ -22,6 +22,7 @@ use Rattle.fetch.specs.declared.NextString.{NextString}
 use Rattle.fetch.specs.declared.NextString.the-variants as nextString
 use Rattle.fetch.specs.Strings.{firstOf}
 use Rattle.reading.specs.Reading.{nameAt}
+use Rattle.listing.specs.Listing.{firstSheet}
 use Rattle.listing.specs.declared.Start.{Start}
 use Rattle.listing.specs.declared.Start.the-variants as start
 use Rattle.listing.specs.declared.NextSheet.{NextSheet}
@@ -42,7 +43,7 @@ checkSeen s (checked.Right g) = record {
   offset = 0;
   sheets = length (sheetsOf s);
   strings = g .unique;
-  sheet = 20;
+  sheet = firstSheet;
   segment = firstOf s (g .table) .seg;
   at = firstOf s (g .table) .at;
   end = firstOf s (g .table) .end;

@@ -103,7 +103,7 @@ pub extern "C" fn station_check(s: &[u8]) -> Check
                 offset: 0,
                 sheets: workbook::sheet_count(s),
                 strings: g.unique,
-                sheet: 20,
+                sheet: listing::first_sheet(),
                 segment: first.seg,
                 at: first.at,
                 end: first.end,

@@ -81,7 +81,7 @@ by-checked s y is h g = g ∙ ap (answered s) (sym h ∙ is)
 pub by-count : (s : List ℕ) (y : Answer) (n : ℕ) (g : Globals) {r : Checked} → r ≡ checkedOf s 0 → r ≡ Right g → n ≡ length (sheetsOf s) → y ≡ Passed n (g .unique) → y ≡ checkOf s
 by-count s y n g is h c e = by-checked s y is h (e ∙ ap (λ (m : ℕ). Passed m (g .unique)) c)
 
-pub ruleset answers = (by-checked, by-count, short)
+pub ruleset answers = (by-checked, by-count)
 
 -- ---- the sheets counted: n so far, the others from p on
 abbrev pub Counted : List ℕ → ℕ → ℕ → Type 0
@@ -104,7 +104,7 @@ module _ (s : List ℕ) (n p : ℕ) (inv : Counted s n p) (r : Bound) (is : r �
         let l = sheets-less s p r is o q k m h in
         (omega arith, omega arith)
 
-    pub count-small : length s ≤ 16777216 → n + 1 < 2 ^ 64
-    count-small short = let l = sheets-less s p r is o q k m h in omega arith
+    pub count-small : length s < 2 ^ 64 → n + 1 < 2 ^ 64
+    count-small fits = let l = sheets-less s p r is o q k m h in omega arith
 
 pub ruleset count-laws = (count-start, count-done, count-skip, count-sheet, sheets-less, skip-less)

@@ -1,6 +1,5 @@
 // The check of a stream.
 ghost use mathlib.Core.Path.{_≡_};
-ghost use Prim.Native.Nat.{_≤_};
 ghost use lib.ListN.{length};
 ghost use Rattle.globals.specs.Sheets.{sheetsOf};
 ghost use Rattle.workbook.specs.Check.{checkedOf, checkOf};
@@ -50,7 +49,6 @@ pub fn check_with(s: &[u8], unique: u32) -> Checked
 
 // How many sheets the BOUNDSHEETs declare.
 pub fn sheet_count(s: &[u8]) -> usize
-    requires { ⌜ length (now s) ≤ 16777216 ⌝ }
     ensures { λ r. ⌜ r ≡ length (sheetsOf (now (s .entry))) ⌝ }
 {
     let mut n: usize = 0;

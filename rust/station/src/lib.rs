@@ -99,8 +99,8 @@ pub fn fetch(stream: &[u8], index: u32, buffer: &mut [u16]) -> Result<usize, Ref
     Ok(answer.units)
 }
 
-/// A string's length is 16 bits.
-const LONGEST_STRING: usize = 65_535;
+/// No shared string has more units: its length is 16 bits.
+pub const LONGEST_STRING: usize = 65_535;
 
 /// A place in the string table.
 #[derive(Clone, Copy, Debug)]

@@ -4,12 +4,9 @@ use crate::arguments::Arguments;
 use crate::input::Stream;
 use crate::outcome::{Failure, Output, Status};
 use crate::text::InLine;
-use station::{Cell, FormulaResult, SheetKind, Value, Workbook};
+use station::{Cell, FormulaResult, SheetKind, Value, Workbook, LONGEST_STRING};
 use std::fmt::{self, Display, Formatter};
 use std::io::{self, Write};
-
-/// No string has more units.
-const LONGEST_STRING: u32 = 65_535;
 
 /// Checks the stream, and has its lines written where it passes.
 fn answer(
@@ -115,8 +112,8 @@ pub fn fetch(arguments: &Arguments, out: &mut Output) -> Result<Status, Failure>
     let room = arguments.number_option("--room")?;
     let stream = Stream::read(arguments.operand(0))?;
     // More room than the longest string takes changes no answer.
-    let room = room.map_or(LONGEST_STRING, |room| room.min(LONGEST_STRING));
-    let mut buffer = vec![0; room as usize];
+    let room = room.map_or(LONGEST_STRING, |room| LONGEST_STRING.min(room as usize));
+    let mut buffer = vec![0; room];
     match station::fetch(&stream.bytes, index, &mut buffer) {
         Ok(count) => {
             write_units(&buffer[..count], out)?;

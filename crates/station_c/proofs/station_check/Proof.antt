@@ -1,5 +1,4 @@
 use Rattle.walk.proofs.Choice.{refl′}
-use Rattle.workbook.proofs.Laws.{short}
 use Rattle.station_c.proofs.Laws.{check-wrong, check-right}
 use borrow.Author.Needs.{needs}
 use Rattle.station_c.proofs.station_check.Statement.{statement}
@@ -16,7 +15,9 @@ station-check-spec =
     -- first-string-requires
     (λ c κs. search needs)
     -- sheet-count-requires
-    (λ c κs. search (short, needs))
+    (λ c κs. search needs)
+    -- first-sheet-requires
+    (λ c κs. search needs)
     -- enum-known-number
     (λ c. search needs)
     -- returns

@@ -14,7 +14,7 @@ check-spec =
     -- enum-known-g
     (λ c. search needs)
     -- sheet-count-requires
-    (λ c κs. search (answers, needs))
+    (λ c κs. search needs)
     -- returns
     (λ c. search (answers, needs))
     -- returns-2
