@@ -10,53 +10,105 @@ use lib.Seq.{getD-set-same, getD-set-other}
 use lib.Dec.{ltb, leb, eqb}
 use borrow.Author.Tests.{eqb-true, eqb-false, ltb-true, ltb-false, eq-eqb, ne-eqb, lt-ltb, le-ltb, not-true, not-false}
 use Rattle.walk.specs.Choice.{pick}
+use Rattle.walk.proofs.Choice.{pick-any}
 use Rattle.walk.proofs.Bools.{bool-ext, and-left, and-right, and-both, or-cases, or-left, or-right}
 use Rattle.sheetlist.specs.Agreement.{Sheet, Bof, starts, named, right, judged, claimed, agreementOf}
-use Rattle.sheetlist.specs.Slots.{codeOf, marks, Marked, Empty, Passed}
+use Rattle.sheetlist.specs.Slots.{inside, codeOf, marks, Marked, Empty, Onward, judgedIn, sooner, orElse, Passed}
 use Rattle.sheetlist.specs.declared.Agreement.{Agreement}
 use Rattle.sheetlist.specs.declared.Agreement.the-variants.{Agree, Disagree}
 
 -- a mark, as facts on numbers
-record Mark (T : List ℕ) (p k : ℕ) : Type 0 where
-  pub low : p < 16777216
+record Mark (T : List ℕ) (lo p k : ℕ) : Type 0 where
+  pub from : lo ≤ p
+  pub low : p - lo < 983040
   pub some : 0 < k
   pub small : k < 8
-  pub is : getD T (p / 20) 0 ≡ p % 20 * 8 + k
+  pub is : getD T ((p - lo) / 20) 0 ≡ (p - lo) % 20 * 8 + k
 
-module _ (T : List ℕ) (p k : ℕ) where
-  mark : marks T p k ≡ true → Mark T p k
+module _ (T : List ℕ) (lo p k : ℕ) where
+  mark : marks T lo p k ≡ true → Mark T lo p k
   unfolding marks
   mark h =
-      let a = ltb-true p 16777216 (and-left _ _ h) in
-      let h2 = and-right (ltb p 16777216) _ h in
+      let z = ltb-false p lo (not-true (ltb p lo) (and-left _ _ h)) in
+      let h1 = and-right (not (ltb p lo)) _ h in
+      let a = ltb-true (p - lo) 983040 (and-left _ _ h1) in
+      let h2 = and-right (ltb (p - lo) 983040) _ h1 in
       let b = ltb-true 0 k (and-left _ _ h2) in
       let h3 = and-right (ltb 0 k) _ h2 in
       let d = ltb-true k 8 (and-left _ _ h3) in
       let h4 = and-right (ltb k 8) _ h3 in
-      record { low = a; some = b; small = d; is = eqb-true (getD T (p / 20) 0) (codeOf p k) h4 }
+      record { from = z; low = a; some = b; small = d; is = eqb-true (getD T ((p - lo) / 20) 0) (codeOf (p - lo) k) h4 }
 
-  unmark : Mark T p k → marks T p k ≡ true
+  unmark : Mark T lo p k → marks T lo p k ≡ true
   unfolding marks
-  unmark m = and-both _ _ (lt-ltb _ _ (m .low)) (and-both _ _ (lt-ltb _ _ (m .some)) (and-both _ _ (lt-ltb _ _ (m .small)) (eq-eqb _ _ (m .is))))
+  unmark m =
+      let z : not (ltb p lo) ≡ true = rw (le-ltb p lo (m .from)) refl in
+      and-both (not (ltb p lo)) _ z
+      (and-both _ _ (lt-ltb _ _ (m .low)) (and-both _ _ (lt-ltb _ _ (m .some)) (and-both _ _ (lt-ltb _ _ (m .small)) (eq-eqb _ _ (m .is)))))
+
+  no-mark : (Mark T lo p k → ⊥) → false ≡ marks T lo p k
+  no-mark n = bool-ext false (marks T lo p k) (λ h. let z : _≡_ {A = ℕ} 0 1 = cc in absurd (omega arith)) (λ h. absurd (n (mark h)))
 
   -- what the function `has` answers
-  pub has-high : 16777216 ≤ p → false ≡ marks T p k
+  pub has-before : p < lo → false ≡ marks T lo p k
+  has-before h = no-mark (λ m. omega arith)
+
+  pub has-none : k ≡ 0 → false ≡ marks T lo p k
+  has-none e = no-mark (λ m. omega arith)
+
+  pub has-large : 7 < k → false ≡ marks T lo p k
+  has-large e = no-mark (λ m. omega arith)
+
+  pub has-high : 983040 ≤ p - lo → false ≡ marks T lo p k
+  has-high h = no-mark (λ m. omega arith)
+
+  pub has-slot : (c : ℕ) → lo ≤ p → p - lo < 983040 → (k ≡ 0 → ⊥) → k ≤ 7 → c ≡ codeOf (p - lo) k → eqb (getD T ((p - lo) / 20) 0) c ≡ marks T lo p k
   unfolding marks
-  has-high h = rw (le-ltb p 16777216 h) refl
+  has-slot c z l n h e = rw (e, le-ltb p lo z, lt-ltb (p - lo) 983040 l, lt-ltb 0 k (omega arith), lt-ltb k 8 (omega arith)) refl
 
-  pub has-none : k ≡ 0 → false ≡ marks T p k
-  has-none e = bool-ext false (marks T p k) (λ h. let z : _≡_ {A = ℕ} 0 1 = cc in absurd (omega arith)) (λ h. let m : Mark T p k = mark h in absurd (omega arith))
+pub ruleset has-laws = (has-before, has-high, has-none, has-large, has-slot)
 
-  pub has-large : 7 < k → false ≡ marks T p k
-  has-large e = bool-ext false (marks T p k) (λ h. let z : _≡_ {A = ℕ} 0 1 = cc in absurd (omega arith)) (λ h. let m : Mark T p k = mark h in absurd (omega arith))
+-- ---- the window
+module _ (lo hi p : ℕ) where
+  pub inside-before : p < lo → false ≡ inside lo hi p
+  unfolding inside
+  inside-before h = rw (lt-ltb p lo h) refl
 
-  pub has-slot : (c : ℕ) → p < 16777216 → (k ≡ 0 → ⊥) → k ≤ 7 → c ≡ codeOf p k → eqb (getD T (p / 20) 0) c ≡ marks T p k
-  unfolding marks
-  has-slot c l n h e = rw (lt-ltb p 16777216 l, lt-ltb 0 k (omega arith), lt-ltb k 8 (omega arith), e) refl
+  pub inside-open : lo ≤ p → hi ≡ 0 → true ≡ inside lo hi p
+  unfolding inside
+  inside-open h e = rw (le-ltb p lo h, eq-eqb hi 0 e) refl
 
-pub ruleset has-laws = (has-high, has-none, has-large, has-slot)
+  pub inside-by : lo ≤ p → (hi ≡ 0 → ⊥) → ltb p hi ≡ inside lo hi p
+  unfolding inside
+  inside-by h n = rw (le-ltb p lo h, ne-eqb hi 0 n) refl
 
-same-or-not : (a b : ℕ) → (a ≡ b) ⊎ (a ≡ b → ⊥)
+  pub inside-from : inside lo hi p ≡ true → lo ≤ p
+  unfolding inside
+  inside-from h = ltb-false p lo (not-true (ltb p lo) (and-left _ _ h))
+
+  pub inside-below : inside lo hi p ≡ true → (hi ≡ 0 → ⊥) → p < hi
+  inside-below h n = ltb-true p hi (inside-by (inside-from h) n ∙ h)
+
+-- a window and what lies before it
+pub below-hi : (lo hi p : ℕ) → lo < hi → ltb p hi ≡ ltb p lo || inside lo hi p
+unfolding inside
+below-hi lo hi p l = by (ltb p lo) refl
+  where
+    by : (b : Bool) → ltb p lo ≡ b → ltb p hi ≡ b || (not b && (eqb hi 0 || ltb p hi))
+    by true h = let a : p < lo = ltb-true p lo h in lt-ltb p hi (omega arith)
+    by false h = rw (ne-eqb hi 0 (λ z. (omega arith))) refl
+
+pub no-end : (lo hi p : ℕ) → hi ≡ 0 → true ≡ ltb p lo || inside lo hi p
+unfolding inside
+no-end lo hi p z = by (ltb p lo)
+  where
+    by : (b : Bool) → true ≡ b || (not b && (eqb hi 0 || ltb p hi))
+    by true = refl
+    by false = rw (eq-eqb hi 0 z) refl
+
+pub ruleset inside-laws = (inside-before, inside-open, inside-by)
+
+pub same-or-not : (a b : ℕ) → (a ≡ b) ⊎ (a ≡ b → ⊥)
 same-or-not a b = by (eqb a b) refl
   where
     by : (x : Bool) → eqb a b ≡ x → (a ≡ b) ⊎ (a ≡ b → ⊥)
@@ -64,83 +116,79 @@ same-or-not a b = by (eqb a b) refl
     by false h = inr (eqb-false a b h)
 
 -- A BOF is put into an empty slot.
-module _ (T : List ℕ) (p k q l : ℕ) (size : length T ≡ 838861) (low : p < 16777216) (some : 0 < k) (small : k < 8) (empty : getD T (p / 20) 0 ≡ 0) where
+module _ (T : List ℕ) (lo p k q l : ℕ) (size : length T ≡ 49152) (from : lo ≤ p) (low : p - lo < 983040) (some : 0 < k) (small : k < 8) (empty : getD T ((p - lo) / 20) 0 ≡ 0) where
   abbrev T′ : List ℕ
-  T′ = set T (p / 20) (codeOf p k)
+  T′ = set T ((p - lo) / 20) (codeOf (p - lo) k)
 
-  put-to : Mark T′ q l → (eqb p q && eqb k l) || marks T q l ≡ true
+  put-to : Mark T′ lo q l → (eqb p q && eqb k l) || marks T lo q l ≡ true
   put-to m = ⊎-elim
       (λ e.
-      let here : getD T′ (q / 20) 0 ≡ codeOf p k = rw e (getD-set-same T (p / 20) (codeOf p k) 0 (omega arith)) in
+      let here : getD T′ ((q - lo) / 20) 0 ≡ codeOf (p - lo) k = rw e (getD-set-same T ((p - lo) / 20) (codeOf (p - lo) k) 0 (omega arith)) in
       let m-is = m .is in
       let a : p ≡ q = omega arith in
       let b : k ≡ l = omega arith in
-      or-left (eqb p q && eqb k l) (marks T q l) (and-both (eqb p q) (eqb k l) (eq-eqb p q a) (eq-eqb k l b)))
-      (λ n. or-right (eqb p q && eqb k l) (marks T q l)
-      (unmark T q l (record { low = m .low; some = m .some; small = m .small; is = sym (getD-set-other T (p / 20) (q / 20) (codeOf p k) 0 n) ∙ m .is })))
-      (same-or-not (q / 20) (p / 20))
+      or-left (eqb p q && eqb k l) (marks T lo q l) (and-both (eqb p q) (eqb k l) (eq-eqb p q a) (eq-eqb k l b)))
+      (λ n. or-right (eqb p q && eqb k l) (marks T lo q l)
+      (unmark T lo q l (record { from = m .from; low = m .low; some = m .some; small = m .small; is = sym (getD-set-other T ((p - lo) / 20) ((q - lo) / 20) (codeOf (p - lo) k) 0 n) ∙ m .is })))
+      (same-or-not ((q - lo) / 20) ((p - lo) / 20))
 
-  put-from : (eqb p q && eqb k l) || marks T q l ≡ true → Mark T′ q l
+  put-from : (eqb p q && eqb k l) || marks T lo q l ≡ true → Mark T′ lo q l
   put-from h = ⊎-elim
       (λ e.
       let a : p ≡ q = eqb-true p q (and-left (eqb p q) (eqb k l) e) in
       let b : k ≡ l = eqb-true k l (and-right (eqb p q) (eqb k l) e) in
-      let here : getD T′ (p / 20) 0 ≡ codeOf p k = getD-set-same T (p / 20) (codeOf p k) 0 (omega arith) in
-      let there : getD T′ (q / 20) 0 ≡ codeOf p k = rw (← a) here in
-      record { low = omega arith; some = omega arith; small = omega arith; is = omega arith })
+      let here : getD T′ ((p - lo) / 20) 0 ≡ codeOf (p - lo) k = getD-set-same T ((p - lo) / 20) (codeOf (p - lo) k) 0 (omega arith) in
+      let there : getD T′ ((q - lo) / 20) 0 ≡ codeOf (p - lo) k = rw (← a) here in
+      record { from = omega arith; low = omega arith; some = omega arith; small = omega arith; is = omega arith })
       (λ e.
-      let m : Mark T q l = mark T q l e in
+      let m : Mark T lo q l = mark T lo q l e in
       let m-is = m .is in
-      let n : q / 20 ≡ p / 20 → ⊥ = λ f. (let z : getD T (q / 20) 0 ≡ 0 = rw f empty in omega arith) in
-      record { low = m .low; some = m .some; small = m .small; is = getD-set-other T (p / 20) (q / 20) (codeOf p k) 0 n ∙ m .is })
-      (or-cases (eqb p q && eqb k l) (marks T q l) h)
+      let n : (q - lo) / 20 ≡ (p - lo) / 20 → ⊥ = λ f. (let z : getD T ((q - lo) / 20) 0 ≡ 0 = rw f empty in omega arith) in
+      record { from = m .from; low = m .low; some = m .some; small = m .small; is = getD-set-other T ((p - lo) / 20) ((q - lo) / 20) (codeOf (p - lo) k) 0 n ∙ m .is })
+      (or-cases (eqb p q && eqb k l) (marks T lo q l) h)
 
-  put : marks T′ q l ≡ (eqb p q && eqb k l) || marks T q l
-  put = bool-ext (marks T′ q l) ((eqb p q && eqb k l) || marks T q l) (λ h. put-to (mark T′ q l h)) (λ h. unmark T′ q l (put-from h))
+  put : marks T′ lo q l ≡ (eqb p q && eqb k l) || marks T lo q l
+  put = bool-ext (marks T′ lo q l) ((eqb p q && eqb k l) || marks T lo q l) (λ h. put-to (mark T′ lo q l h)) (λ h. unmark T′ lo q l (put-from h))
 
 -- A BOF that stands there is taken out.
-module _ (T : List ℕ) (p k q l : ℕ) (size : length T ≡ 838861) (m : Mark T p k) where
+module _ (T : List ℕ) (lo p k q l : ℕ) (size : length T ≡ 49152) (m : Mark T lo p k) where
   abbrev T″ : List ℕ
-  T″ = set T (p / 20) 0
+  T″ = set T ((p - lo) / 20) 0
 
-  take-to : Mark T″ q l → marks T q l && not (eqb p q) ≡ true
+  take-to : Mark T″ lo q l → marks T lo q l && not (eqb p q) ≡ true
   take-to h = ⊎-elim
       (λ e.
       let low = m .low in
-      let here : getD T″ (q / 20) 0 ≡ 0 = rw e (getD-set-same T (p / 20) 0 0 (omega arith)) in
+      let here : getD T″ ((q - lo) / 20) 0 ≡ 0 = rw e (getD-set-same T ((p - lo) / 20) 0 0 (omega arith)) in
       let h-is = h .is in
       let some = h .some in
       absurd (omega arith))
       (λ n.
       let d : p ≡ q → ⊥ = λ f. n (rw f refl) in
-      and-both (marks T q l) (not (eqb p q))
-      (unmark T q l (record { low = h .low; some = h .some; small = h .small; is = sym (getD-set-other T (p / 20) (q / 20) 0 0 n) ∙ h .is }))
+      and-both (marks T lo q l) (not (eqb p q))
+      (unmark T lo q l (record { from = h .from; low = h .low; some = h .some; small = h .small; is = sym (getD-set-other T ((p - lo) / 20) ((q - lo) / 20) 0 0 n) ∙ h .is }))
       (rw (ne-eqb p q d) refl))
-      (same-or-not (q / 20) (p / 20))
+      (same-or-not ((q - lo) / 20) ((p - lo) / 20))
 
-  take-from : marks T q l && not (eqb p q) ≡ true → Mark T″ q l
+  take-from : marks T lo q l && not (eqb p q) ≡ true → Mark T″ lo q l
   take-from h =
-      let o : Mark T q l = mark T q l (and-left (marks T q l) (not (eqb p q)) h) in
-      let d : p ≡ q → ⊥ = eqb-false p q (not-true (eqb p q) (and-right (marks T q l) (not (eqb p q)) h)) in
+      let o : Mark T lo q l = mark T lo q l (and-left (marks T lo q l) (not (eqb p q)) h) in
+      let d : p ≡ q → ⊥ = eqb-false p q (not-true (eqb p q) (and-right (marks T lo q l) (not (eqb p q)) h)) in
       let o-is = o .is in
       let m-is = m .is in
-      let n : q / 20 ≡ p / 20 → ⊥ = λ f. (let z : getD T (q / 20) 0 ≡ p % 20 * 8 + k = rw f m-is in let e : p ≡ q = omega arith in d e) in
-      record { low = o .low; some = o .some; small = o .small; is = getD-set-other T (p / 20) (q / 20) 0 0 n ∙ o-is }
+      let n : (q - lo) / 20 ≡ (p - lo) / 20 → ⊥ = λ f. (let z : getD T ((q - lo) / 20) 0 ≡ (p - lo) % 20 * 8 + k = rw f m-is in let e : p ≡ q = omega arith in d e) in
+      record { from = o .from; low = o .low; some = o .some; small = o .small; is = getD-set-other T ((p - lo) / 20) ((q - lo) / 20) 0 0 n ∙ o-is }
 
-  taken : marks T″ q l ≡ marks T q l && not (eqb p q)
-  taken = bool-ext (marks T″ q l) (marks T q l && not (eqb p q)) (λ h. take-to (mark T″ q l h)) (λ h. unmark T″ q l (take-from h))
+  taken : marks T″ lo q l ≡ marks T lo q l && not (eqb p q)
+  taken = bool-ext (marks T″ lo q l) (marks T lo q l && not (eqb p q)) (λ h. take-to (mark T″ lo q l h)) (λ h. unmark T″ lo q l (take-from h))
 
-nothing : (T : List ℕ) → Empty T → (q l : ℕ) → marks T q l ≡ false
-nothing T empty q l = by (marks T q l) refl
-  where
-    by : (b : Bool) → marks T q l ≡ b → b ≡ false
-    by true h = let m : Mark T q l = mark T q l h in let m-is = m .is in let z = empty (q / 20) in absurd (omega arith)
-    by false h = refl
+nothing : (T : List ℕ) → Empty T → (lo q l : ℕ) → marks T lo q l ≡ false
+nothing T empty lo q l = sym (no-mark T lo q l (λ m. let m-is = m .is in let z = empty ((q - lo) / 20) in omega arith))
 
--- The BOFs are put into the table: the slots from place p on are empty, and the table and the rest of the BOFs are all BOFs.
-pub record Filling (all rest : List Bof) (T : List ℕ) (p : ℕ) : Type 0 where
-  pub ahead : (j : ℕ) → p / 20 ≤ j → getD T j 0 ≡ 0
-  pub whole : (q l : ℕ) → marks T q l || starts rest q l ≡ starts all q l
+-- The BOFs are put into the table: the slots from place p on are empty, and the table and the rest of the BOFs are all BOFs from lo on.
+pub record Filling (all rest : List Bof) (T : List ℕ) (lo p : ℕ) : Type 0 where
+  pub ahead : (j : ℕ) → (p - lo) / 20 ≤ j → getD T j 0 ≡ 0
+  pub whole : (q l : ℕ) → lo ≤ q → marks T lo q l || starts rest q l ≡ starts all q l
 
 or-move : (a b c : Bool) → (a || b) || c ≡ b || (a || c)
 or-move true true c = refl
@@ -151,42 +199,49 @@ or-none : (b : Bool) → b ≡ b || false
 or-none true = refl
 or-none false = refl
 
-pub fill-start : (all : List Bof) (T : List ℕ) (p : ℕ) → Empty T → Filling all all T p
-fill-start all T p empty = record { ahead = λ j h. empty j; whole = λ q l. rw (nothing T empty q l) refl }
+pub fill-start : (all rest : List Bof) (T : List ℕ) (lo p : ℕ) → Empty T → Onward rest lo all → Filling all rest T lo p
+fill-start all rest T lo p empty on = record { ahead = λ j h. empty j; whole = λ q l h. rw (nothing T empty lo q l) (on q l h) }
 
 and-none : (b : Bool) (q : ℕ) → b && not (named [] q) ≡ b
 unfolding named
 and-none true q = refl
 and-none false q = refl
 
-pub fill-done : (all : List Bof) (T : List ℕ) (p : ℕ) → Filling all [] T p → Marked T all []
-unfolding starts
-fill-done all T p inv q l = or-none (marks T q l) ∙ inv .whole q l ∙ sym (and-none (starts all q l) q)
+-- no BOF is left that starts in the window
+pub fill-done : (all rest : List Bof) (T : List ℕ) (lo hi p : ℕ) → Filling all rest T lo p → ((q l : ℕ) → inside lo hi q ≡ true → starts rest q l ≡ false) → Marked T lo hi all []
+fill-done all rest T lo hi p inv none q l h =
+    or-none (marks T lo q l) ∙ ap (λ (b : Bool). marks T lo q l || b) (sym (none q l h)) ∙ inv .whole q l (inside-from lo hi q h) ∙ sym (and-none (starts all q l) q)
 
-pub fill-again : (all rest : List Bof) (T : List ℕ) (p k n c : ℕ) → Filling all (record { start = p; kind = k } ∷ rest) T p
-    → p < 16777216 → 0 < k → k < 8 → p + 20 ≤ n → length T ≡ 838861 → c ≡ codeOf p k → Filling all rest (set T (p / 20) c) n
+-- from the window's last slot on the table says nothing
+pub fill-onward : (all rest : List Bof) (T : List ℕ) (lo p : ℕ) → Filling all rest T lo p → lo ≤ p → 983040 ≤ p - lo → Onward rest p all
+fill-onward all rest T lo p inv from far q l h =
+    let none : marks T lo q l ≡ false = sym (no-mark T lo q l (λ m. let low = m .low in omega arith)) in
+    rw none at (inv .whole q l (omega arith))
+
+pub fill-again : (all rest : List Bof) (T : List ℕ) (lo p k n c : ℕ) → Filling all (record { start = p; kind = k } ∷ rest) T lo p
+    → lo ≤ p → p - lo < 983040 → 0 < k → k < 8 → p + 20 ≤ n → length T ≡ 49152 → c ≡ codeOf (p - lo) k → Filling all rest (set T ((p - lo) / 20) c) lo n
 unfolding starts
-fill-again all rest T p k n c inv low some small far size e =
-    let here : getD T (p / 20) 0 ≡ 0 = inv .ahead (p / 20) (omega arith) in
+fill-again all rest T lo p k n c inv from low some small far size e =
+    let here : getD T ((p - lo) / 20) 0 ≡ 0 = inv .ahead ((p - lo) / 20) (omega arith) in
     rw e
     (record {
-      ahead = λ j le. getD-set-other T (p / 20) j (codeOf p k) 0 (λ f. (omega arith)) ∙ inv .ahead j (omega arith);
-      whole = λ q l.
-          ap (λ (b : Bool). b || starts rest q l) (put T p k q l size low some small here)
-          ∙ or-move (eqb p q && eqb k l) (marks T q l) (starts rest q l)
-          ∙ inv .whole q l;
+      ahead = λ j le. getD-set-other T ((p - lo) / 20) j (codeOf (p - lo) k) 0 (λ f. (omega arith)) ∙ inv .ahead j (omega arith);
+      whole = λ q l h.
+          ap (λ (b : Bool). b || starts rest q l) (put T lo p k q l size from low some small here)
+          ∙ or-move (eqb p q && eqb k l) (marks T lo q l) (starts rest q l)
+          ∙ inv .whole q l h;
     })
 
 -- The sheets are gone through: the table has the BOFs that none of the earlier sheets names, and the rest of the sheets decide.
-pub record Passing (bofs : List Bof) (all rest : List Sheet) (T : List ℕ) : Type 0 where
+pub record Passing (bofs : List Bof) (all rest : List Sheet) (T : List ℕ) (lo hi : ℕ) : Type 0 where
   pub earlier : List Sheet
-  pub marked : Marked T bofs earlier
+  pub marked : Marked T lo hi bofs earlier
   pub names : (q : ℕ) → named earlier q || named rest q ≡ named all q
-  pub same : (v : Agreement) → judged bofs earlier rest v ≡ judged bofs [] all v
+  pub same : judgedIn (inside lo hi) bofs earlier rest ≡ judgedIn (inside lo hi) bofs [] all
 
-pub pass-start : (bofs : List Bof) (all : List Sheet) (T : List ℕ) → Marked T bofs [] → Passing bofs all all T
+pub pass-start : (bofs : List Bof) (all : List Sheet) (T : List ℕ) (lo hi : ℕ) → Marked T lo hi bofs [] → Passing bofs all all T lo hi
 unfolding named
-pass-start bofs all T m = record { earlier = []; marked = m; names = λ q. refl; same = λ v. refl }
+pass-start bofs all T lo hi m = record { earlier = []; marked = m; names = λ q. refl; same = refl }
 
 and-not-or : (a b c : Bool) → (a && not b) && not c ≡ a && not (c || b)
 and-not-or true true true = refl
@@ -195,40 +250,59 @@ and-not-or true false true = refl
 and-not-or true false false = refl
 and-not-or false b c = refl
 
-pub pass-low : (T : List ℕ) (q k : ℕ) → marks T q k ≡ true → q / 20 < 838861
-pass-low T q k y = let m : Mark T q k = mark T q k y in let l = m .low in omega arith
+pub pass-low : (T : List ℕ) (lo q k : ℕ) → marks T lo q k ≡ true → (lo ≤ q) × ((q - lo) / 20 < 49152)
+pass-low T lo q k y = let m : Mark T lo q k = mark T lo q k y in let f = m .from in let l = m .low in omega arith
 
-pub pass-done : (bofs : List Bof) (all : List Sheet) (T : List ℕ) → Passing bofs all [] T → Passed T all bofs Agree
-unfolding judged named
-pass-done bofs all T inv = (
-  (λ v. sym (inv .same v)),
-  λ q l. inv .marked q l ∙ ap (λ (b : Bool). starts bofs q l && not b) (or-none (named (inv .earlier) q) ∙ inv .names q),
+pub pass-done : (bofs : List Bof) (all : List Sheet) (T : List ℕ) (lo hi : ℕ) → Passing bofs all [] T lo hi → Passed T lo hi all bofs Agree
+unfolding judgedIn named
+pass-done bofs all T lo hi inv = (
+  inv .same,
+  λ q l h. inv .marked q l h ∙ ap (λ (b : Bool). starts bofs q l && not b) (or-none (named (inv .earlier) q) ∙ inv .names q),
 )
 
-module _ (bofs : List Bof) (all rest : List Sheet) (T : List ℕ) (o q k : ℕ) (inv : Passing bofs all (record { header = o; position = q; kind = k } ∷ rest) T) where
-  pub pass-fault : marks T q k ≡ false → Passed T all bofs (Disagree o)
-  unfolding judged pick
-  pass-fault y v =
-      let not-right : starts bofs q k && not (named (inv .earlier) q) ≡ false = sym (inv .marked q k) ∙ y in
-      sym (inv .same v) ∙ rw not-right refl
-
-  pub pass-again : marks T q k ≡ true → length T ≡ 838861 → Passing bofs all rest (set T (q / 20) 0)
-  unfolding judged named pick
-  pass-again there size =
-      let is-right : starts bofs q k && not (named (inv .earlier) q) ≡ true = sym (inv .marked q k) ∙ there in
+module _ (bofs : List Bof) (all rest : List Sheet) (T : List ℕ) (lo hi o q k : ℕ) (inv : Passing bofs all (record { header = o; position = q; kind = k } ∷ rest) T lo hi) where
+  -- a sheet of another window
+  pub pass-by : inside lo hi q ≡ false → Passing bofs all rest T lo hi
+  unfolding judgedIn named pick
+  pass-by y =
       record {
         earlier = record { header = o; position = q; kind = k } ∷ inv .earlier;
-        marked = λ x l.
-            taken T q k x l size (mark T q k there)
-            ∙ ap (λ (a : Bool). a && not (eqb q x)) (inv .marked x l)
-            ∙ and-not-or (starts bofs x l) (named (inv .earlier) x) (eqb q x);
+        marked = λ x l h. (let ne : eqb q x ≡ false = ne-eqb q x (λ e. apart x h e) in inv .marked x l h ∙ rw ne refl);
         names = λ x. or-move (eqb q x) (named (inv .earlier) x) (named rest x) ∙ inv .names x;
-        same = λ v. sym (step v is-right) ∙ inv .same v;
+        same = sym (step y) ∙ inv .same;
       }
     where
-      step : (v : Agreement) → starts bofs q k && not (named (inv .earlier) q) ≡ true
-          → judged bofs (inv .earlier) (record { header = o; position = q; kind = k } ∷ rest) v ≡ judged bofs (record { header = o; position = q; kind = k } ∷ inv .earlier) rest v
-      step v e = rw e refl
+      apart : (x : ℕ) → inside lo hi x ≡ true → q ≡ x → ⊥
+      apart x h e = let f : inside lo hi x ≡ false = rw (← e) y in let z : _≡_ {A = ℕ} 0 1 = cc in omega arith
+
+      step : inside lo hi q ≡ false
+          → judgedIn (inside lo hi) bofs (inv .earlier) (record { header = o; position = q; kind = k } ∷ rest) ≡ judgedIn (inside lo hi) bofs (record { header = o; position = q; kind = k } ∷ inv .earlier) rest
+      step e = rw e refl
+
+  module _ (in-window : inside lo hi q ≡ true) where
+    pub pass-fault : marks T lo q k ≡ false → Passed T lo hi all bofs (Disagree o)
+    unfolding judgedIn pick
+    pass-fault y =
+        let not-right : starts bofs q k && not (named (inv .earlier) q) ≡ false = sym (inv .marked q k in-window) ∙ y in
+        sym (sym (inv .same) ∙ rw (in-window, not-right) refl)
+
+    pub pass-again : marks T lo q k ≡ true → length T ≡ 49152 → Passing bofs all rest (set T ((q - lo) / 20) 0) lo hi
+    unfolding judgedIn named pick
+    pass-again there size =
+        let is-right : starts bofs q k && not (named (inv .earlier) q) ≡ true = sym (inv .marked q k in-window) ∙ there in
+        record {
+          earlier = record { header = o; position = q; kind = k } ∷ inv .earlier;
+          marked = λ x l h.
+              taken T lo q k x l size (mark T lo q k there)
+              ∙ ap (λ (a : Bool). a && not (eqb q x)) (inv .marked x l h)
+              ∙ and-not-or (starts bofs x l) (named (inv .earlier) x) (eqb q x);
+          names = λ x. or-move (eqb q x) (named (inv .earlier) x) (named rest x) ∙ inv .names x;
+          same = sym (step is-right) ∙ inv .same;
+        }
+      where
+        step : starts bofs q k && not (named (inv .earlier) q) ≡ true
+            → judgedIn (inside lo hi) bofs (inv .earlier) (record { header = o; position = q; kind = k } ∷ rest) ≡ judgedIn (inside lo hi) bofs (record { header = o; position = q; kind = k } ∷ inv .earlier) rest
+        step e = rw (in-window, e) refl
 
 -- The BOFs are gone through: the rest of them decide.
 pub record Leaving (sheets : List Sheet) (all rest : List Bof) : Type 0 where
@@ -259,28 +333,131 @@ module _ (sheets : List Sheet) (all rest : List Bof) (p k : ℕ) (inv : Leaving 
   unfolding claimed pick
   left-free y = sym (sym (inv .same) ∙ rw y refl)
 
-  module _ (T : List ℕ) (table : Marked T all sheets) where
-    is-named : marks T p k ≡ not (named sheets p)
-    is-named = table p k ∙ ap (λ (a : Bool). a && not (named sheets p)) head-in
+  module _ (T : List ℕ) (lo hi : ℕ) (table : Marked T lo hi all sheets) (in-window : inside lo hi p ≡ true) where
+    is-named : marks T lo p k ≡ not (named sheets p)
+    is-named = table p k in-window ∙ ap (λ (a : Bool). a && not (named sheets p)) head-in
 
-    pub left-here : marks T p k ≡ true → Disagree p ≡ claimed sheets all
+    pub left-here : marks T lo p k ≡ true → Disagree p ≡ claimed sheets all
     left-here y = left-free (not-true (named sheets p) (sym is-named ∙ y))
 
-    pub left-again : marks T p k ≡ false → Leaving sheets all rest
+    pub left-again : marks T lo p k ≡ false → Leaving sheets all rest
     left-again y = left-named (not-false (named sheets p) (sym is-named ∙ y))
 
--- The three passes together.
-module _ (T : List ℕ) (sheets : List Sheet) (bofs : List Bof) (v : Agreement) (passed : Passed T sheets bofs v) where
-  pub table-refused : (h : ℕ) → v ≡ Disagree h → Disagree h ≡ agreementOf sheets bofs
-  unfolding agreementOf
-  table-refused h e = let w : Passed T sheets bofs (Disagree h) = subst (Passed T sheets bofs) e passed in sym (w (claimed sheets bofs))
+-- The windows together: the sooner of what two sorts of sheets give is what both give, since the headers rise.
+abbrev pub Rising : ℕ → List Sheet → Type 0
+Rising b [] = Unit {0}
+Rising b (x ∷ r) = (b ≤ x .header) × Rising (suc (x .header)) r
 
-  pub table-left : v ≡ Agree → Marked T bofs sheets
-  table-left e = let w : Passed T sheets bofs Agree = subst (Passed T sheets bofs) e passed in w .1
+pub rising-from : (b c : ℕ) (sheets : List Sheet) → b ≤ c → Rising c sheets → Rising b sheets
+rising-from b c [] l r = tt
+rising-from b c (x ∷ sheets) l r = let h = r .0 in ((omega arith), r .1)
 
-  pub table-agree : v ≡ Agree → (r : Agreement) → r ≡ claimed sheets bofs → r ≡ agreementOf sheets bofs
+abbrev Since : ℕ → Agreement → Type 0
+Since b Agree = Unit {0}
+Since b (Disagree h) = b ≤ h
+
+since-from : (b c : ℕ) (a : Agreement) → b ≤ c → Since c a → Since b a
+since-from b c Agree l h = tt
+since-from b c (Disagree g) l h = omega arith
+
+module _ (bofs : List Bof) where
+  since : (P : ℕ → Bool) (b : ℕ) (earlier sheets : List Sheet) → Rising b sheets → Since b (judgedIn P bofs earlier sheets)
+  unfolding judgedIn
+  since P b earlier [] r = tt
+  since P b earlier (x ∷ sheets) r =
+      pick-any (Since b) _ (since-from b (suc (x .header)) (judgedIn P bofs (x ∷ earlier) sheets) (let h = r .0 in omega arith) (since P (suc (x .header)) (x ∷ earlier) sheets (r .1))) (r .0)
+
+  sooner-left : (h : ℕ) (a : Agreement) → Since (suc h) a → Disagree h ≡ sooner (Disagree h) a
+  unfolding pick
+  sooner-left h Agree l = refl
+  sooner-left h (Disagree g) l = let y : h < g = omega arith in rw (lt-ltb h g y) refl
+
+  sooner-right : (h : ℕ) (a : Agreement) → Since (suc h) a → Disagree h ≡ sooner a (Disagree h)
+  unfolding pick
+  sooner-right h Agree l = refl
+  sooner-right h (Disagree g) l = let y : h ≤ g = omega arith in rw (le-ltb g h y) refl
+
+  sooner-same : (h : ℕ) → Disagree h ≡ sooner (Disagree h) (Disagree h)
+  unfolding pick
+  sooner-same h = rw (le-ltb h h (omega arith)) refl
+
+  module _ (P Q R : ℕ → Bool) (both : (p : ℕ) → R p ≡ P p || Q p) where
+    pub judged-both : (b : ℕ) (earlier sheets : List Sheet) → Rising b sheets
+        → sooner (judgedIn P bofs earlier sheets) (judgedIn Q bofs earlier sheets) ≡ judgedIn R bofs earlier sheets
+    unfolding judgedIn pick
+    judged-both b earlier [] r = refl
+    judged-both b earlier (x ∷ sheets) r =
+        rw (both (x .position))
+        (step (P (x .position)) (Q (x .position)) (right bofs earlier x) (judgedIn P bofs (x ∷ earlier) sheets) (judgedIn Q bofs (x ∷ earlier) sheets) (judgedIn R bofs (x ∷ earlier) sheets)
+        (judged-both (suc (x .header)) (x ∷ earlier) sheets (r .1))
+        (since P (suc (x .header)) (x ∷ earlier) sheets (r .1))
+        (since Q (suc (x .header)) (x ∷ earlier) sheets (r .1)))
+      where
+        step : (p q y : Bool) (i j k : Agreement) → sooner i j ≡ k → Since (suc (x .header)) i → Since (suc (x .header)) j
+            → sooner (pick (not p || y) i (Disagree (x .header))) (pick (not q || y) j (Disagree (x .header))) ≡ pick (not (p || q) || y) k (Disagree (x .header))
+        step true true true i j k e f g = e
+        step true true false i j k e f g = sym (sooner-same (x .header))
+        step true false true i j k e f g = e
+        step true false false i j k e f g = sym (sooner-left (x .header) j g)
+        step false true true i j k e f g = e
+        step false true false i j k e f g = sym (sooner-right (x .header) i f)
+        step false false y i j k e f g = e
+
+  pub judged-none : (P : ℕ → Bool) → ((p : ℕ) → P p ≡ false) → (earlier sheets : List Sheet) → Agree ≡ judgedIn P bofs earlier sheets
+  unfolding judgedIn pick
+  judged-none P none earlier [] = refl
+  judged-none P none earlier (x ∷ sheets) = rw (none (x .position)) (judged-none P none (x ∷ earlier) sheets)
+
+  judged-all : (P : ℕ → Bool) → ((p : ℕ) → P p ≡ true) → (v : Agreement) (earlier sheets : List Sheet) → orElse (judgedIn P bofs earlier sheets) v ≡ judged bofs earlier sheets v
+  unfolding judgedIn judged pick
+  judged-all P every v earlier [] = refl
+  judged-all P every v earlier (x ∷ sheets) = rw (every (x .position)) (step (right bofs earlier x) (judgedIn P bofs (x ∷ earlier) sheets) (judged bofs (x ∷ earlier) sheets v) (judged-all P every v (x ∷ earlier) sheets))
+    where
+      step : (y : Bool) (i k : Agreement) → orElse i v ≡ k → orElse (pick y i (Disagree (x .header))) v ≡ pick y k (Disagree (x .header))
+      step true i k e = e
+      step false i k e = refl
+
+  -- all windows: the first sheet that is not right, else the first BOF that none names
+  pub windows-done : (P : ℕ → Bool) → ((p : ℕ) → P p ≡ true) → (sheets : List Sheet) (fault free : Agreement) → fault ≡ judgedIn P bofs [] sheets
+      → (fault ≡ Agree → free ≡ claimed sheets bofs) → orElse fault free ≡ agreementOf sheets bofs
   unfolding agreementOf
-  table-agree e r h = let w : Passed T sheets bofs Agree = subst (Passed T sheets bofs) e passed in h ∙ sym (w .0 (claimed sheets bofs))
+  windows-done P every sheets fault free e f = by fault refl ∙ ap (λ (a : Agreement). orElse a (claimed sheets bofs)) e ∙ judged-all P every (claimed sheets bofs) [] sheets
+    where
+      by : (a : Agreement) → fault ≡ a → orElse a free ≡ orElse a (claimed sheets bofs)
+      by Agree h = f h
+      by (Disagree o) h = refl
+
+pub sooner-agree : (a b : Agreement) → sooner a b ≡ Agree → (a ≡ Agree) × (b ≡ Agree)
+unfolding pick
+sooner-agree Agree b h = (refl, h)
+sooner-agree (Disagree g) Agree h = let z : _≡_ {A = ℕ} 0 1 = cc in absurd (omega arith)
+sooner-agree (Disagree g) (Disagree f) h = by (ltb g f) h
+  where
+    by : (y : Bool) → pick y (Disagree g) (Disagree f) ≡ Agree → (Disagree g ≡ Agree) × (Disagree f ≡ Agree)
+    by true i = let z : _≡_ {A = ℕ} 0 1 = cc in absurd (omega arith)
+    by false i = let z : _≡_ {A = ℕ} 0 1 = cc in absurd (omega arith)
+
+pub else-else : (a b c : Agreement) → orElse (orElse a b) c ≡ orElse a (orElse b c)
+else-else Agree b c = refl
+else-else (Disagree h) b c = refl
+
+-- what the functions `sooner` and `or_else` answer
+module _ (a b : Agreement) (h : ℕ) (e : a ≡ Disagree h) where
+  pub sooner-alone : b ≡ Agree → Disagree h ≡ sooner a b
+  sooner-alone f = rw (e, f) refl
+
+  pub sooner-first : (g : ℕ) → b ≡ Disagree g → h < g → Disagree h ≡ sooner a b
+  unfolding pick
+  sooner-first g f l = rw (e, f, lt-ltb h g l) refl
+
+  pub sooner-second : (g : ℕ) → b ≡ Disagree g → g ≤ h → Disagree g ≡ sooner a b
+  unfolding pick
+  sooner-second g f l = rw (e, f, le-ltb h g l) refl
+
+  pub else-first : Disagree h ≡ orElse a b
+  else-first = rw e refl
+
+pub ruleset sooner-laws = (sooner-alone, sooner-first, sooner-second, else-first)
 
 pub zeros-length : (n : ℕ) → length (replicate {A = ℕ} n 0) ≡ n
 zeros-length n = length-replicate n 0
@@ -342,5 +519,3 @@ module _ (sheets : List Sheet) (bofs rest : List Bof) (p k : ℕ) where
           same = λ v. sym (step v) ∙ inv .same v;
           leaving = left-named sheets bofs rest p k (inv .leaving) some-one;
         }
-
-pub ruleset table-laws = (table-refused, table-left, table-agree)

@@ -1,7 +1,8 @@
-// The slots by which the sheet list is held against the substreams in linear time: one pass over the sheets and two over the BOFs.
+// The slots by which the sheet list is held against the substreams, a window of 983,040 positions at a time: two passes over its BOFs and one over the
+// sheets.
 ghost use mathlib.Core.Path.{_≡_};
 ghost use Prim.Native.Nat.{_<_};
-ghost use Rattle.sheetlist.specs.Slots.{codeOf, marks};
+ghost use Rattle.sheetlist.specs.Slots.{inside, codeOf, marks, sooner, orElse};
 
 // Whether the sheet list and the substreams agree; if not, the offset of the first BOUNDSHEET or BOF at fault.
 pub enum Agreement {
@@ -9,19 +10,64 @@ pub enum Agreement {
     Disagree(usize),
 }
 
-// What stands in the slot of a position where a BOF of this kind starts at it.
-pub fn code(p: usize, kind: u32) -> u8
-    requires { ⌜ kind < 8 ⌝ }
-    ensures { λ r. ⌜ r ≡ codeOf p kind ⌝ }
+// Of two refusals the one that comes first in the stream.
+pub fn sooner(a: Agreement, b: Agreement) -> Agreement
+    ensures { λ r. ⌜ r ≡ sooner a b ⌝ }
 {
-    ((p % 20) * 8 + le::u32_as_usize(kind)) as u8
+    match a {
+        Agreement::Agree => b,
+        Agreement::Disagree(h) => match b {
+            Agreement::Agree => Agreement::Disagree(h),
+            Agreement::Disagree(g) => {
+                if h < g {
+                    return Agreement::Disagree(h);
+                }
+                Agreement::Disagree(g)
+            }
+        },
+    }
+}
+
+// The first refusal, or the second if there is none.
+pub fn or_else(a: Agreement, b: Agreement) -> Agreement
+    ensures { λ r. ⌜ r ≡ orElse a b ⌝ }
+{
+    match a {
+        Agreement::Agree => b,
+        Agreement::Disagree(h) => Agreement::Disagree(h),
+    }
+}
+
+// Whether a position lies in the window from `lo` up to `hi`; 0 for `hi` is no end.
+pub fn inside(lo: usize, hi: usize, p: usize) -> bool
+    ensures { λ r. ⌜ r ≡ inside lo hi p ⌝ }
+{
+    if p < lo {
+        return false;
+    }
+    if hi == 0 {
+        return true;
+    }
+    p < hi
+}
+
+// What stands in the slot of a position where a BOF of this kind starts at it; d is how far from the window's start.
+pub fn code(d: usize, kind: u32) -> u8
+    requires { ⌜ kind < 8 ⌝ }
+    ensures { λ r. ⌜ r ≡ codeOf d kind ⌝ }
+{
+    ((d % 20) * 8 + le::u32_as_usize(kind)) as u8
 }
 
 // Whether the slots have a BOF of this kind that starts at a position.
-pub fn has(slots: &[u8; 838861], p: usize, kind: u32) -> bool
-    ensures { λ r. ⌜ r ≡ marks (now (slots .entry)) p kind ⌝ }
+pub fn has(slots: &[u8; 49152], lo: usize, p: usize, kind: u32) -> bool
+    ensures { λ r. ⌜ r ≡ marks (now (slots .entry)) lo p kind ⌝ }
 {
-    if 16777216 <= p {
+    if p < lo {
+        return false;
+    }
+    let d = p - lo;
+    if 983040 <= d {
         return false;
     }
     if kind == 0 {
@@ -30,5 +76,5 @@ pub fn has(slots: &[u8; 838861], p: usize, kind: u32) -> bool
     if 7 < kind {
         return false;
     }
-    slots[p / 20] == code(p, kind)
+    slots[d / 20] == code(d, kind)
 }

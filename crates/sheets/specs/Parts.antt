@@ -1,24 +1,55 @@
 -- What the contracts of the inner functions speak of. Nothing here is part of a public promise.
-use Prim.Native.Nat.{ℕ, _≤_}
+use Prim.Native.Nat.{ℕ, _≤_, _<_}
 use mathlib.Core.Path.{_≡_}
 use mathlib.Core.List.{List, [], _∷_}
 use lib.ListN.{length}
 use Rattle.sheetlist.specs.declared.Agreement.{Agreement}
-use Rattle.sheetlist.specs.declared.Agreement.the-variants.{Agree}
-use Rattle.sheetlist.specs.Agreement.{Sheet, Bof, agreementOf}
-use Rattle.sheetlist.specs.Slots.{Marked, Passed}
+use Rattle.sheetlist.specs.declared.Agreement.the-variants.{Agree, Disagree}
+use Rattle.sheetlist.specs.Agreement.{Sheet, Bof, claimed, agreementOf}
+use Rattle.sheetlist.specs.Slots.{inside, Marked, Onward, judgedIn, orElse, Passed}
 use Rattle.globals.specs.declared.Bound.{Bound}
 use Rattle.globals.specs.declared.Bound.the-variants as bound
 use Rattle.globals.specs.Sheets.{sheetsFrom, sheetsOf}
 use Rattle.toplevel.specs.declared.Walked.{Walked}
 use Rattle.toplevel.specs.declared.Walked.the-variants as walked
 use Rattle.toplevel.specs.TopLevel.{topsFrom, bofsFrom}
+use Rattle.sheets.specs.declared.Remaining.{Remaining}
+use Rattle.sheets.specs.declared.Remaining.the-variants as remaining
+use Rattle.sheets.specs.declared.Window.{Window}
 use Rattle.sheets.specs.declared.Tail.{Tail}
 use Rattle.sheets.specs.declared.Tail.the-variants as tail
 
+-- the BOFs from a place on are put into the slots of the window from lo up to hi, where the next window starts (0: none does); whichever BOFs stand before lo
+pub record Filled (s : List ℕ) (u from lo : ℕ) (T : List ℕ) (hi : ℕ) : Type 0 where
+  pub within : hi ≤ length s
+  pub far : (hi ≡ 0 → ⊥) → lo < hi
+  pub marked : (bofs : List Bof) → Onward (bofsFrom s u from) lo bofs → Marked T lo hi bofs []
+  pub next : (hi ≡ 0 → ⊥) → (bofs : List Bof) → Onward (bofsFrom s u from) lo bofs → Onward (bofsFrom s u hi) hi bofs
+
 -- what the pass over the sheets found, whichever BOFs the slots had before it
-pub record PassedAll (T₀ T : List ℕ) (sheets : List Sheet) (v : Agreement) : Type 0 where
-  pub for-all : (bofs : List Bof) → Marked T₀ bofs [] → Passed T sheets bofs v
+pub record PassedAll (T₀ T : List ℕ) (lo hi : ℕ) (sheets : List Sheet) (v : Agreement) : Type 0 where
+  pub for-all : (bofs : List Bof) → Marked T₀ lo hi bofs [] → Passed T lo hi sheets bofs v
+
+-- all BOFs of the window up to hi are named; the others stand from `at` on
+pub record NamedAll (s : List ℕ) (u from hi at : ℕ) : Type 0 where
+  pub past : hi ≤ at
+  pub same : claimed (sheetsOf s) (bofsFrom s u at) ≡ claimed (sheetsOf s) (bofsFrom s u from)
+  pub next : (hi ≡ 0 → ⊥) → Onward (bofsFrom s u at) hi (bofsFrom s u from)
+  pub last : hi ≡ 0 → bofsFrom s u at ≡ []
+
+abbrev pub Lefts : List ℕ → ℕ → ℕ → ℕ → Remaining → Type 0
+Lefts s u from hi (remaining.Named at) = NamedAll s u from hi at
+Lefts s u from hi (remaining.Free b) = Disagree b ≡ claimed (sheetsOf s) (bofsFrom s u from)
+
+-- what a window from lo on gives, whichever BOFs stand before lo
+pub record Windowed (s : List ℕ) (u from lo : ℕ) (w : Window) : Type 0 where
+  pub within : w .hi ≤ length s
+  pub far : (w .hi ≡ 0 → ⊥) → lo < w .hi
+  pub past : w .hi ≤ w .at
+  pub judges : (bofs : List Bof) → Onward (bofsFrom s u from) lo bofs → w .fault ≡ judgedIn (inside lo (w .hi)) bofs [] (sheetsOf s)
+  pub claims : w .fault ≡ Agree → orElse (w .free) (claimed (sheetsOf s) (bofsFrom s u (w .at))) ≡ claimed (sheetsOf s) (bofsFrom s u from)
+  pub next : (w .hi ≡ 0 → ⊥) → (bofs : List Bof) → Onward (bofsFrom s u from) lo bofs → Onward (bofsFrom s u (w .at)) (w .hi) bofs
+  pub last : w .hi ≡ 0 → w .fault ≡ Agree → w .free ≡ claimed (sheetsOf s) (bofsFrom s u from)
 
 -- what the next sheet from a place on is
 abbrev pub Found : List ℕ → ℕ → Bound → Type 0

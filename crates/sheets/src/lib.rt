@@ -1,15 +1,14 @@
-// The walk of the top-level substreams with the sheet list held against it: refusal 10, in linear time on every stream. Sheets that name the BOFs
-// in their order, as writers write them, are settled inside the walk; for any other order the BOFs are put into slots of 20 positions, which costs
-// 838,861 bytes of stack.
+// The walk of the top-level substreams with the sheet list held against it: refusal 10. Sheets that name the BOFs in their order, as writers write
+// them, are settled inside the walk; for any other order the BOFs are put into slots of 20 positions, 49,152 slots at a time, so that the stack holds them:
+// each window walks its own BOFs twice, and all sheets once.
 ghost use mathlib.Core.Path.{_≡_};
-ghost use mathlib.Core.List.{[]};
 ghost use Prim.Native.Nat.{_≤_};
 ghost use lib.ListN.{length};
-ghost use Rattle.sheetlist.specs.Agreement.{agreementOf, claimed};
+ghost use Rattle.sheetlist.specs.Agreement.{agreementOf};
 ghost use Rattle.sheetlist.specs.Slots.{Marked, Empty};
 ghost use Rattle.globals.specs.Sheets.{sheetsOf};
 ghost use Rattle.toplevel.specs.TopLevel.{bofsFrom};
-ghost use Rattle.sheets.specs.Parts.{PassedAll, Found, Followed, Ends, Tailed};
+ghost use Rattle.sheets.specs.Parts.{Filled, PassedAll, Lefts, Windowed, Found, Followed, Ends, Tailed};
 use globals::Bound;
 use sheetlist::Agreement;
 use substream::Ended;
@@ -21,30 +20,52 @@ pub enum Tail {
     Refused { number: u8, offset: usize },
 }
 
-// Puts each BOF into its slot.
-fn fill(s: &[u8], unique: u32, from: usize, slots: &mut [u8; 838861])
-    requires { ⌜ (length (now s) ≤ 16777216) × (length (now slots) ≡ 838861) × Empty (now slots) ⌝ }
-    ensures { λ _. ⌜ (length (now (slots .exit)) ≡ 838861) × Marked (now (slots .exit)) (bofsFrom (now (s .entry)) unique from) [] ⌝ }
+// The BOFs of a window that are left: they are all named, and the next BOF, if there is one, stands at this place; or the first that no sheet names.
+pub enum Remaining {
+    Named(usize),
+    Free(usize),
+}
+
+// What a window gives: the first of its sheets that isn't right; if all are, the first of its BOFs that no sheet names; where the next window starts, 0 if
+// there is none; and the place of the next BOF.
+pub struct Window {
+    pub fault: Agreement,
+    pub free: Agreement,
+    pub hi: usize,
+    pub at: usize,
+}
+
+// Puts each BOF from a place on into its slot, up to the window's last slot. Gives the place of the next BOF, or 0 if there is none.
+fn fill(s: &[u8], unique: u32, from: usize, lo: usize, slots: &mut [u8; 49152]) -> usize
+    requires { ⌜ (length (now slots) ≡ 49152) × Empty (now slots) × (lo ≤ from) ⌝ }
+    ensures { λ r. ⌜ (length (now (slots .exit)) ≡ 49152) × Filled (now (s .entry)) unique from lo (now (slots .exit)) r ⌝ }
 {
     let mut at = from;
     loop {
+        if s.len() <= at {
+            return 0;
+        }
+        let d = at - lo;
+        if 983040 <= d {
+            return at;
+        }
         match toplevel::bof_at(s, unique, at) {
             toplevel::Found::Bof { kind, end } => {
-                let c = sheetlist::code(at, kind);
-                slots[at / 20] = c;
+                let c = sheetlist::code(d, kind);
+                slots[d / 20] = c;
                 at = end;
             }
             toplevel::Found::None => {
-                return;
+                return 0;
             }
         }
     }
 }
 
-// Takes the BOF that each sheet names out of its slot, up to a sheet whose BOF isn't there.
-fn pass(s: &[u8], slots: &mut [u8; 838861]) -> Agreement
-    requires { ⌜ length (now slots) ≡ 838861 ⌝ }
-    ensures { λ r. ⌜ PassedAll (now (slots .entry)) (now (slots .exit)) (sheetsOf (now (s .entry))) r ⌝ }
+// Takes the BOF that each sheet of the window names out of its slot, up to a sheet whose BOF isn't there.
+fn pass(s: &[u8], lo: usize, hi: usize, slots: &mut [u8; 49152]) -> Agreement
+    requires { ⌜ length (now slots) ≡ 49152 ⌝ }
+    ensures { λ r. ⌜ PassedAll (now (slots .entry)) (now (slots .exit)) lo hi (sheetsOf (now (s .entry))) r ⌝ }
 {
     let mut p: usize = 20;
     loop {
@@ -56,11 +77,15 @@ fn pass(s: &[u8], slots: &mut [u8; 838861]) -> Agreement
                 next,
             } => {
                 let q = le::u32_as_usize(position);
-                if sheetlist::has(slots, q, kind) {
-                    slots[q / 20] = 0;
-                    p = next;
+                if sheetlist::inside(lo, hi, q) {
+                    if sheetlist::has(slots, lo, q, kind) {
+                        slots[(q - lo) / 20] = 0;
+                        p = next;
+                    } else {
+                        return Agreement::Disagree(header);
+                    }
                 } else {
-                    return Agreement::Disagree(header);
+                    p = next;
                 }
             }
             Bound::Other(next) => {
@@ -73,45 +98,90 @@ fn pass(s: &[u8], slots: &mut [u8; 838861]) -> Agreement
     }
 }
 
-// The first BOF that is still in its slot.
-fn left(s: &[u8], unique: u32, from: usize, slots: &[u8; 838861]) -> Agreement
-    requires { ⌜ Marked (now slots) (bofsFrom (now s) unique from) (sheetsOf (now s)) ⌝ }
-    ensures { λ r. ⌜ r ≡ claimed (sheetsOf (now (s .entry))) (bofsFrom (now (s .entry)) unique from) ⌝ }
+// The first BOF of the window that is still in its slot.
+fn left(s: &[u8], unique: u32, from: usize, lo: usize, hi: usize, slots: &[u8; 49152]) -> Remaining
+    requires { ⌜ (lo ≤ from) × (hi ≤ length (now s)) × Marked (now slots) lo hi (bofsFrom (now s) unique from) (sheetsOf (now s)) ⌝ }
+    ensures { λ r. ⌜ Lefts (now (s .entry)) unique from hi r ⌝ }
 {
     let mut at = from;
     loop {
-        match toplevel::bof_at(s, unique, at) {
-            toplevel::Found::Bof { kind, end } => {
-                if sheetlist::has(slots, at, kind) {
-                    return Agreement::Disagree(at);
+        if sheetlist::inside(lo, hi, at) {
+            match toplevel::bof_at(s, unique, at) {
+                toplevel::Found::Bof { kind, end } => {
+                    if sheetlist::has(slots, lo, at, kind) {
+                        return Remaining::Free(at);
+                    }
+                    at = end;
                 }
-                at = end;
+                toplevel::Found::None => {
+                    return Remaining::Named(s.len());
+                }
             }
-            toplevel::Found::None => {
-                return Agreement::Agree;
-            }
+        } else {
+            return Remaining::Named(at);
         }
     }
 }
 
 // With empty slots.
-fn with_slots(s: &[u8], unique: u32, from: usize, slots: &mut [u8; 838861]) -> Agreement
-    requires { ⌜ (length (now s) ≤ 16777216) × (length (now slots) ≡ 838861) × Empty (now slots) ⌝ }
-    ensures { λ r. ⌜ r ≡ agreementOf (sheetsOf (now (s .entry))) (bofsFrom (now (s .entry)) unique from) ⌝ }
+fn with_slots(s: &[u8], unique: u32, from: usize, lo: usize, slots: &mut [u8; 49152]) -> Window
+    requires { ⌜ (length (now slots) ≡ 49152) × Empty (now slots) × (lo ≤ from) ⌝ }
+    ensures { λ r. ⌜ Windowed (now (s .entry)) unique from lo r ⌝ }
 {
-    fill(s, unique, from, slots);
-    match pass(s, slots) {
-        Agreement::Disagree(header) => Agreement::Disagree(header),
-        Agreement::Agree => left(s, unique, from, slots),
+    let hi = fill(s, unique, from, lo, slots);
+    match pass(s, lo, hi, slots) {
+        Agreement::Disagree(header) => Window {
+            fault: Agreement::Disagree(header),
+            free: Agreement::Agree,
+            hi,
+            at: hi,
+        },
+        Agreement::Agree => match left(s, unique, from, lo, hi, slots) {
+            Remaining::Named(at) => Window {
+                fault: Agreement::Agree,
+                free: Agreement::Agree,
+                hi,
+                at,
+            },
+            Remaining::Free(start) => Window {
+                fault: Agreement::Agree,
+                free: Agreement::Disagree(start),
+                hi,
+                at: hi,
+            },
+        },
     }
 }
 
+fn window_from(s: &[u8], unique: u32, from: usize, lo: usize) -> Window
+    requires { ⌜ lo ≤ from ⌝ }
+    ensures { λ r. ⌜ Windowed (now (s .entry)) unique from lo r ⌝ }
+{
+    let mut slots = [0u8; 49152];
+    with_slots(s, unique, from, lo, &mut slots)
+}
+
+// A window after the other; of their refusals the sooner.
 fn by_slots(s: &[u8], unique: u32, from: usize) -> Agreement
-    requires { ⌜ length (now s) ≤ 16777216 ⌝ }
     ensures { λ r. ⌜ r ≡ agreementOf (sheetsOf (now (s .entry))) (bofsFrom (now (s .entry)) unique from) ⌝ }
 {
-    let mut slots = [0u8; 838861];
-    with_slots(s, unique, from, &mut slots)
+    let mut lo: usize = 0;
+    let mut at = from;
+    let mut fault = Agreement::Agree;
+    let mut free = Agreement::Agree;
+    loop {
+        let w = window_from(s, unique, at, lo);
+        let hi = w.hi;
+        let f = w.fault;
+        let g = w.free;
+        fault = sheetlist::sooner(fault, f);
+        free = sheetlist::or_else(free, g);
+        if hi == 0 {
+            return sheetlist::or_else(fault, free);
+        }
+        lo = hi;
+        at = w.at;
+    }
 }
 
 // The next BOUNDSHEET from a place on.

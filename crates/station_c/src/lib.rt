@@ -91,6 +91,14 @@ pub struct Filled {
     pub level: u8,
 }
 
+// The version 0.1.0, a thousand for each part.
+#[no_mangle]
+pub extern "C" fn station_version() -> u32
+    ensures { λ r. ⌜ r ≡ 1000 ⌝ }
+{
+    1000
+}
+
 #[no_mangle]
 pub extern "C" fn station_check(s: &[u8]) -> Check
     ensures { λ r. ⌜ r ≡ checkSeen (now (s .entry)) (checkedOf (now (s .entry)) 0) ⌝ }

@@ -2,20 +2,46 @@ use Rattle.sheetlist.proofs.Laws.{has-laws}
 use borrow.Author.Needs.{needs}
 use Rattle.sheetlist.proofs.has.Statement.{statement}
 use Rattle.sheetlist.proofs.has.Tie as tie
+use Rattle.sheetlist.proofs.has.Reads as reads
+use Rattle.sheetlist.proofs.has.Lts as lts
+use Rattle.sheetlist.proofs.code.Reads as code-reads
+
+-- src/lib.rt:68:9
+returns : tie.Need-returns
+returns c = search (has-laws, needs)
+
+-- src/lib.rt:72:9
+returns-2 : tie.Need-returns-2
+returns-2 c = search (has-laws, needs)
+
+-- src/lib.rt:75:9
+returns-3 : tie.Need-returns-3
+returns-3 c = search (has-laws, needs)
+
+-- src/lib.rt:78:9
+returns-4 : tie.Need-returns-4
+returns-4 c = search (has-laws, needs)
+
+-- src/lib.rt:80:5
+element-copy-out-result : tie.Need-element-copy-out-result
+element-copy-out-result c = search needs
+
+-- src/lib.rt:80:22
+code-requires : tie.Need-code-requires
+code-requires c κs = search needs
+
+-- src/lib.rt:64:1
+returns-5 : tie.Need-returns-5
+returns-5 c = search (has-laws, needs)
 
 pub has-spec : {M : Type 1} → statement M
 has-spec =
     tie.close
     (tie.spec
-    -- returns
-    (λ c. search (has-laws, needs))
-    -- returns-2
-    (λ c. search (has-laws, needs))
-    -- returns-3
-    (λ c. search (has-laws, needs))
-    -- element-copy-out-result
-    (λ c. search needs)
-    -- code-requires
-    (λ c κs. search needs)
-    -- returns-4
-    (λ c. search (has-laws, needs)))
+    returns
+    returns-2
+    returns-3
+    returns-4
+    element-copy-out-result
+    code-requires
+    returns-5)

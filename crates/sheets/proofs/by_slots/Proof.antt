@@ -1,13 +1,34 @@
-use Rattle.sheetlist.proofs.Laws.{zeros-length, no-marks}
 use borrow.Author.Needs.{needs}
+use Rattle.sheets.proofs.Laws.{Going, going-laws}
+use mathlib.Core.Path.{_≡_, refl}
+use Prim.Native.Nat.{_-_}
+use lib.ListN.{length}
 use Rattle.sheets.proofs.by_slots.Statement.{statement}
 use Rattle.sheets.proofs.by_slots.Tie as tie
+
+abbrev Inv-loop : tie.InvT-loop
+Inv-loop s unique from lo₀ at₀ fault₀ free₀ lo at fault free = Going s unique from lo at fault free
+
+abbrev μ-loop : tie.MeasureT-loop
+μ-loop s unique from lo₀ at₀ fault₀ free₀ lo at fault free = length s - lo
 
 pub by-slots-spec : {M : Type 1} → statement M
 by-slots-spec =
     tie.close
-    (tie.spec
-    -- with-slots-requires
-    (λ c κs. (c .before .before .pre, zeros-length 838861, no-marks 838861))
+    (tie.spec Inv-loop μ-loop
+    -- loop-holds
+    (λ c. search (going-laws, needs))
+    -- window-from-requires
+    (λ c κs. search (going-laws, needs))
+    -- sooner-requires
+    (λ c κs. search (going-laws, needs))
+    -- or-else-requires
+    (λ c κs. search (going-laws, needs))
+    -- or-else-requires-2
+    (λ c κs. search (going-laws, needs))
     -- returns
-    (λ c. search needs))
+    (λ c. search (going-laws, needs))
+    -- loop-less
+    (λ c. search (going-laws, needs))
+    -- loop-again
+    (λ c. search (going-laws, needs)))

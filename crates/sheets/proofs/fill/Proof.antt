@@ -7,16 +7,22 @@ use Rattle.sheets.proofs.fill.Statement.{statement}
 use Rattle.sheets.proofs.fill.Tie as tie
 
 abbrev Inv-loop : tie.InvT-loop
-Inv-loop s unique from slots₀ at₀ slots at = (length slots ≡ 838861) × Filling s unique at₀ slots at
+Inv-loop s unique from lo slots₀ at₀ slots at = (length slots ≡ 49152) × Filling s unique at₀ lo slots at
 
 abbrev μ-loop : tie.MeasureT-loop
-μ-loop s unique from slots₀ at₀ slots at = length s - at
+μ-loop s unique from lo slots₀ at₀ slots at = length s - at
 
 pub fill-spec : {M : Type 1} → statement M
 fill-spec =
     tie.close
     (tie.spec Inv-loop μ-loop
     -- loop-holds
+    (λ c. search (fill-laws, needs))
+    -- returns
+    (λ c. search (fill-laws, needs))
+    -- sub-d
+    (λ c. search (fill-laws, needs))
+    -- returns-2
     (λ c. search (fill-laws, needs))
     -- bof-at-requires
     (λ c κs. search (fill-laws, needs))
@@ -32,5 +38,5 @@ fill-spec =
     (λ c. search (fill-laws, needs))
     -- enum-told
     (λ c. search needs)
-    -- returns
+    -- returns-3
     (λ c. search (fill-laws, needs)))

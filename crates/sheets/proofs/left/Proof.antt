@@ -7,10 +7,10 @@ use Rattle.sheets.proofs.left.Statement.{statement}
 use Rattle.sheets.proofs.left.Tie as tie
 
 abbrev Inv-loop : tie.InvT-loop
-Inv-loop s unique from slots at₀ at = Leaving s unique at₀ at
+Inv-loop s unique from lo hi slots at₀ at = Leaving s unique at₀ lo hi at
 
 abbrev μ-loop : tie.MeasureT-loop
-μ-loop s unique from slots at₀ at = length s - at
+μ-loop s unique from lo hi slots at₀ at = length s - at
 
 pub left-spec : {M : Type 1} → statement M
 left-spec =
@@ -18,6 +18,8 @@ left-spec =
     (tie.spec Inv-loop μ-loop
     -- loop-holds
     (λ c. search (left-laws, needs))
+    -- inside-requires
+    (λ c κs. search (left-laws, needs))
     -- bof-at-requires
     (λ c κs. search (left-laws, needs))
     -- enum-known-kind
@@ -33,4 +35,6 @@ left-spec =
     -- enum-told
     (λ c. search needs)
     -- returns-2
+    (λ c. search (left-laws, needs))
+    -- returns-3
     (λ c. search (left-laws, needs)))

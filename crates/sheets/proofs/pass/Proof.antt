@@ -7,10 +7,10 @@ use Rattle.sheets.proofs.pass.Statement.{statement}
 use Rattle.sheets.proofs.pass.Tie as tie
 
 abbrev Inv-loop : tie.InvT-loop
-Inv-loop s slots₀ p₀ slots p = (length slots ≡ 838861) × Passing s slots₀ slots p
+Inv-loop s lo hi slots₀ p₀ slots p = (length slots ≡ 49152) × Passing s slots₀ slots lo hi p
 
 abbrev μ-loop : tie.MeasureT-loop
-μ-loop s slots₀ p₀ slots p = length s - p
+μ-loop s lo hi slots₀ p₀ slots p = length s - p
 
 pub pass-spec : {M : Type 1} → statement M
 pass-spec =
@@ -24,8 +24,12 @@ pass-spec =
     (λ c. search needs)
     -- u32-as-usize-requires
     (λ c κs. search (pass-laws, needs))
+    -- inside-requires
+    (λ c κs. search (pass-laws, needs))
     -- has-requires
     (λ c κs. search (pass-laws, needs))
+    -- sub-slots
+    (λ c. search (pass-laws, needs))
     -- element-write-slots
     (λ c. search (pass-laws, needs))
     -- loop-less
@@ -34,11 +38,15 @@ pass-spec =
     (λ c. search (pass-laws, needs))
     -- returns
     (λ c. search (pass-laws, needs))
-    -- enum-known-next
-    (λ c. search needs)
     -- loop-less-2
     (λ c. search (pass-laws, needs))
     -- loop-again-2
+    (λ c. search (pass-laws, needs))
+    -- enum-known-next
+    (λ c. search needs)
+    -- loop-less-3
+    (λ c. search (pass-laws, needs))
+    -- loop-again-3
     (λ c. search (pass-laws, needs))
     -- enum-told
     (λ c. search needs)

@@ -1,5 +1,5 @@
-use Rattle.sheets.proofs.Laws.{slots-laws, slots-left}
 use borrow.Author.Needs.{needs}
+use Rattle.sheets.proofs.Laws.{window-left, window-fault, window-named, window-free}
 use Rattle.sheets.proofs.with_slots.Statement.{statement}
 use Rattle.sheets.proofs.with_slots.Tie as tie
 
@@ -16,8 +16,18 @@ with-slots-spec =
     -- enum-told
     (λ c. search needs)
     -- left-requires
-    (λ c κs. slots-left _ _ _ _ _ (c .before .before .before .pass .ensures) (c .before .before .before .before .before .fill .ensures .1) (search needs))
+    (λ c κs. (
+      c .before .before .before .before .before .before .before .before .pre .2,
+      c .before .before .before .before .before .fill .ensures .1 .within,
+      window-left _ _ _ _ _ _ _ (c .before .before .before .before .before .fill .ensures .1) _ (c .before .before .before .pass .ensures) (search needs),
+    ))
+    -- enum-known-at
+    (λ c. search needs)
+    -- enum-known-start
+    (λ c. search needs)
     -- returns
-    (λ c. search (slots-laws, needs))
+    (λ c. window-fault _ _ _ _ _ _ _ (c .before .before .before .before .before .fill .ensures .1) _ (c .before .before .before .pass .ensures) _ (search needs))
     -- returns-2
-    (λ c. search (slots-laws, needs)))
+    (λ c. window-named _ _ _ _ _ _ _ (c .before .before .before .before .before .before .before .before .before .fill .ensures .1) _ (c .before .before .before .before .before .before .before .pass .ensures) (search needs) (c .before .before .before .left .result) (c .before .before .before .left .ensures) _ (search needs))
+    -- returns-3
+    (λ c. window-free _ _ _ _ _ _ _ (c .before .before .before .before .before .before .before .before .before .fill .ensures .1) _ (c .before .before .before .before .before .before .before .pass .ensures) (search needs) (c .before .before .before .left .result) (c .before .before .before .left .ensures) _ (search needs)))

@@ -1,0 +1,13 @@
+use Rattle.sheetlist.proofs.Laws.{zeros-length, no-marks}
+use borrow.Author.Needs.{needs}
+use Rattle.sheets.proofs.window_from.Statement.{statement}
+use Rattle.sheets.proofs.window_from.Tie as tie
+
+pub window-from-spec : {M : Type 1} → statement M
+window-from-spec =
+    tie.close
+    (tie.spec
+    -- with-slots-requires
+    (λ c κs. (zeros-length 49152, no-marks 49152, c .before .before .pre))
+    -- returns
+    (λ c. search needs))
