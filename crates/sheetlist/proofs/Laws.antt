@@ -20,10 +20,10 @@ use Rattle.sheetlist.specs.declared.Agreement.the-variants.{Agree, Disag
 -- a mark, as facts on numbers
 record Mark (T : List ℕ) (lo p k : ℕ) : Type 0 where
   pub from : lo ≤ p
-  pub low : p - lo < 983040
+  pub low : p - lo < 1277952
   pub some : 0 < k
   pub small : k < 8
-  pub is : getD T ((p - lo) / 20) 0 ≡ (p - lo) % 20 * 8 + k
+  pub is : getD T ((p - lo) / 24) 0 ≡ (p - lo) % 24 * 8 + k
 
 module _ (T : List ℕ) (lo p k : ℕ) where
   mark : marks T lo p k ≡ true → Mark T lo p k
@@ -31,13 +31,13 @@ module _ (T : List ℕ) (lo p k : ℕ) where
   mark h =
       let z = ltb-false p lo (not-true (ltb p lo) (and-left _ _ h)) in
       let h1 = and-right (not (ltb p lo)) _ h in
-      let a = ltb-true (p - lo) 983040 (and-left _ _ h1) in
-      let h2 = and-right (ltb (p - lo) 983040) _ h1 in
+      let a = ltb-true (p - lo) 1277952 (and-left _ _ h1) in
+      let h2 = and-right (ltb (p - lo) 1277952) _ h1 in
       let b = ltb-true 0 k (and-left _ _ h2) in
       let h3 = and-right (ltb 0 k) _ h2 in
       let d = ltb-true k 8 (and-left _ _ h3) in
       let h4 = and-right (ltb k 8) _ h3 in
-      record { from = z; low = a; some = b; small = d; is = eqb-true (getD T ((p - lo) / 20) 0) (codeOf (p - lo) k) h4 }
+      record { from = z; low = a; some = b; small = d; is = eqb-true (getD T ((p - lo) / 24) 0) (codeOf (p - lo) k) h4 }
 
   unmark : Mark T lo p k → marks T lo p k ≡ true
   unfolding marks
@@ -59,12 +59,12 @@ module _ (T : List ℕ) (lo p k : ℕ) where
   pub has-large : 7 < k → false ≡ marks T lo p k
   has-large e = no-mark (λ m. omega arith)
 
-  pub has-high : 983040 ≤ p - lo → false ≡ marks T lo p k
+  pub has-high : 1277952 ≤ p - lo → false ≡ marks T lo p k
   has-high h = no-mark (λ m. omega arith)
 
-  pub has-slot : (c : ℕ) → lo ≤ p → p - lo < 983040 → (k ≡ 0 → ⊥) → k ≤ 7 → c ≡ codeOf (p - lo) k → eqb (getD T ((p - lo) / 20) 0) c ≡ marks T lo p k
+  pub has-slot : (c : ℕ) → lo ≤ p → p - lo < 1277952 → (k ≡ 0 → ⊥) → k ≤ 7 → c ≡ codeOf (p - lo) k → eqb (getD T ((p - lo) / 24) 0) c ≡ marks T lo p k
   unfolding marks
-  has-slot c z l n h e = rw (e, le-ltb p lo z, lt-ltb (p - lo) 983040 l, lt-ltb 0 k (omega arith), lt-ltb k 8 (omega arith)) refl
+  has-slot c z l n h e = rw (e, le-ltb p lo z, lt-ltb (p - lo) 1277952 l, lt-ltb 0 k (omega arith), lt-ltb k 8 (omega arith)) refl
 
 pub ruleset has-laws = (has-before, has-high, has-none, has-large, has-slot)
 
@@ -116,59 +116,59 @@ same-or-not a b = by (eqb a b) refl
     by false h = inr (eqb-false a b h)
 
 -- A BOF is put into an empty slot.
-module _ (T : List ℕ) (lo p k q l : ℕ) (size : length T ≡ 49152) (from : lo ≤ p) (low : p - lo < 983040) (some : 0 < k) (small : k < 8) (empty : getD T ((p - lo) / 20) 0 ≡ 0) where
+module _ (T : List ℕ) (lo p k q l : ℕ) (size : length T ≡ 53248) (from : lo ≤ p) (low : p - lo < 1277952) (some : 0 < k) (small : k < 8) (empty : getD T ((p - lo) / 24) 0 ≡ 0) where
   abbrev T′ : List ℕ
-  T′ = set T ((p - lo) / 20) (codeOf (p - lo) k)
+  T′ = set T ((p - lo) / 24) (codeOf (p - lo) k)
 
   put-to : Mark T′ lo q l → (eqb p q && eqb k l) || marks T lo q l ≡ true
   put-to m = ⊎-elim
       (λ e.
-      let here : getD T′ ((q - lo) / 20) 0 ≡ codeOf (p - lo) k = rw e (getD-set-same T ((p - lo) / 20) (codeOf (p - lo) k) 0 (omega arith)) in
+      let here : getD T′ ((q - lo) / 24) 0 ≡ codeOf (p - lo) k = rw e (getD-set-same T ((p - lo) / 24) (codeOf (p - lo) k) 0 (omega arith)) in
       let m-is = m .is in
       let a : p ≡ q = omega arith in
       let b : k ≡ l = omega arith in
       or-left (eqb p q && eqb k l) (marks T lo q l) (and-both (eqb p q) (eqb k l) (eq-eqb p q a) (eq-eqb k l b)))
       (λ n. or-right (eqb p q && eqb k l) (marks T lo q l)
-      (unmark T lo q l (record { from = m .from; low = m .low; some = m .some; small = m .small; is = sym (getD-set-other T ((p - lo) / 20) ((q - lo) / 20) (codeOf (p - lo) k) 0 n) ∙ m .is })))
-      (same-or-not ((q - lo) / 20) ((p - lo) / 20))
+      (unmark T lo q l (record { from = m .from; low = m .low; some = m .some; small = m .small; is = sym (getD-set-other T ((p - lo) / 24) ((q - lo) / 24) (codeOf (p - lo) k) 0 n) ∙ m .is })))
+      (same-or-not ((q - lo) / 24) ((p - lo) / 24))
 
   put-from : (eqb p q && eqb k l) || marks T lo q l ≡ true → Mark T′ lo q l
   put-from h = ⊎-elim
       (λ e.
       let a : p ≡ q = eqb-true p q (and-left (eqb p q) (eqb k l) e) in
       let b : k ≡ l = eqb-true k l (and-right (eqb p q) (eqb k l) e) in
-      let here : getD T′ ((p - lo) / 20) 0 ≡ codeOf (p - lo) k = getD-set-same T ((p - lo) / 20) (codeOf (p - lo) k) 0 (omega arith) in
-      let there : getD T′ ((q - lo) / 20) 0 ≡ codeOf (p - lo) k = rw (← a) here in
+      let here : getD T′ ((p - lo) / 24) 0 ≡ codeOf (p - lo) k = getD-set-same T ((p - lo) / 24) (codeOf (p - lo) k) 0 (omega arith) in
+      let there : getD T′ ((q - lo) / 24) 0 ≡ codeOf (p - lo) k = rw (← a) here in
       record { from = omega arith; low = omega arith; some = omega arith; small = omega arith; is = omega arith })
       (λ e.
       let m : Mark T lo q l = mark T lo q l e in
       let m-is = m .is in
-      let n : (q - lo) / 20 ≡ (p - lo) / 20 → ⊥ = λ f. (let z : getD T ((q - lo) / 20) 0 ≡ 0 = rw f empty in omega arith) in
-      record { from = m .from; low = m .low; some = m .some; small = m .small; is = getD-set-other T ((p - lo) / 20) ((q - lo) / 20) (codeOf (p - lo) k) 0 n ∙ m .is })
+      let n : (q - lo) / 24 ≡ (p - lo) / 24 → ⊥ = λ f. (let z : getD T ((q - lo) / 24) 0 ≡ 0 = rw f empty in omega arith) in
+      record { from = m .from; low = m .low; some = m .some; small = m .small; is = getD-set-other T ((p - lo) / 24) ((q - lo) / 24) (codeOf (p - lo) k) 0 n ∙ m .is })
       (or-cases (eqb p q && eqb k l) (marks T lo q l) h)
 
   put : marks T′ lo q l ≡ (eqb p q && eqb k l) || marks T lo q l
   put = bool-ext (marks T′ lo q l) ((eqb p q && eqb k l) || marks T lo q l) (λ h. put-to (mark T′ lo q l h)) (λ h. unmark T′ lo q l (put-from h))
 
 -- A BOF that stands there is taken out.
-module _ (T : List ℕ) (lo p k q l : ℕ) (size : length T ≡ 49152) (m : Mark T lo p k) where
+module _ (T : List ℕ) (lo p k q l : ℕ) (size : length T ≡ 53248) (m : Mark T lo p k) where
   abbrev T″ : List ℕ
-  T″ = set T ((p - lo) / 20) 0
+  T″ = set T ((p - lo) / 24) 0
 
   take-to : Mark T″ lo q l → marks T lo q l && not (eqb p q) ≡ true
   take-to h = ⊎-elim
       (λ e.
       let low = m .low in
-      let here : getD T″ ((q - lo) / 20) 0 ≡ 0 = rw e (getD-set-same T ((p - lo) / 20) 0 0 (omega arith)) in
+      let here : getD T″ ((q - lo) / 24) 0 ≡ 0 = rw e (getD-set-same T ((p - lo) / 24) 0 0 (omega arith)) in
       let h-is = h .is in
       let some = h .some in
       absurd (omega arith))
       (λ n.
       let d : p ≡ q → ⊥ = λ f. n (rw f refl) in
       and-both (marks T lo q l) (not (eqb p q))
-      (unmark T lo q l (record { from = h .from; low = h .low; some = h .some; small = h .small; is = sym (getD-set-other T ((p - lo) / 20) ((q - lo) / 20) 0 0 n) ∙ h .is }))
+      (unmark T lo q l (record { from = h .from; low = h .low; some = h .some; small = h .small; is = sym (getD-set-other T ((p - lo) / 24) ((q - lo) / 24) 0 0 n) ∙ h .is }))
       (rw (ne-eqb p q d) refl))
-      (same-or-not ((q - lo) / 20) ((p - lo) / 20))
+      (same-or-not ((q - lo) / 24) ((p - lo) / 24))
 
   take-from : marks T lo q l && not (eqb p q) ≡ true → Mark T″ lo q l
   take-from h =
@@ -176,18 +176,18 @@ module _ (T : List ℕ) (lo p k q l : ℕ) (size : length T ≡ 49152) (m : Mark
       let d : p ≡ q → ⊥ = eqb-false p q (not-true (eqb p q) (and-right (marks T lo q l) (not (eqb p q)) h)) in
       let o-is = o .is in
       let m-is = m .is in
-      let n : (q - lo) / 20 ≡ (p - lo) / 20 → ⊥ = λ f. (let z : getD T ((q - lo) / 20) 0 ≡ (p - lo) % 20 * 8 + k = rw f m-is in let e : p ≡ q = omega arith in d e) in
-      record { from = o .from; low = o .low; some = o .some; small = o .small; is = getD-set-other T ((p - lo) / 20) ((q - lo) / 20) 0 0 n ∙ o-is }
+      let n : (q - lo) / 24 ≡ (p - lo) / 24 → ⊥ = λ f. (let z : getD T ((q - lo) / 24) 0 ≡ (p - lo) % 24 * 8 + k = rw f m-is in let e : p ≡ q = omega arith in d e) in
+      record { from = o .from; low = o .low; some = o .some; small = o .small; is = getD-set-other T ((p - lo) / 24) ((q - lo) / 24) 0 0 n ∙ o-is }
 
   taken : marks T″ lo q l ≡ marks T lo q l && not (eqb p q)
   taken = bool-ext (marks T″ lo q l) (marks T lo q l && not (eqb p q)) (λ h. take-to (mark T″ lo q l h)) (λ h. unmark T″ lo q l (take-from h))
 
 nothing : (T : List ℕ) → Empty T → (lo q l : ℕ) → marks T lo q l ≡ false
-nothing T empty lo q l = sym (no-mark T lo q l (λ m. let m-is = m .is in let z = empty ((q - lo) / 20) in omega arith))
+nothing T empty lo q l = sym (no-mark T lo q l (λ m. let m-is = m .is in let z = empty ((q - lo) / 24) in omega arith))
 
 -- The BOFs are put into the table: the slots from place p on are empty, and the table and the rest of the BOFs are all BOFs from lo on.
 pub record Filling (all rest : List Bof) (T : List ℕ) (lo p : ℕ) : Type 0 where
-  pub ahead : (j : ℕ) → (p - lo) / 20 ≤ j → getD T j 0 ≡ 0
+  pub ahead : (j : ℕ) → (p - lo) / 24 ≤ j → getD T j 0 ≡ 0
   pub whole : (q l : ℕ) → lo ≤ q → marks T lo q l || starts rest q l ≡ starts all q l
 
 or-move : (a b c : Bool) → (a || b) || c ≡ b || (a || c)
@@ -213,19 +213,19 @@ fill-done all rest T lo hi p inv none q l h =
     or-none (marks T lo q l) ∙ ap (λ (b : Bool). marks T lo q l || b) (sym (none q l h)) ∙ inv .whole q l (inside-from lo hi q h) ∙ sym (and-none (starts all q l) q)
 
 -- from the window's last slot on the table says nothing
-pub fill-onward : (all rest : List Bof) (T : List ℕ) (lo p : ℕ) → Filling all rest T lo p → lo ≤ p → 983040 ≤ p - lo → Onward rest p all
+pub fill-onward : (all rest : List Bof) (T : List ℕ) (lo p : ℕ) → Filling all rest T lo p → lo ≤ p → 1277952 ≤ p - lo → Onward rest p all
 fill-onward all rest T lo p inv from far q l h =
     let none : marks T lo q l ≡ false = sym (no-mark T lo q l (λ m. let low = m .low in omega arith)) in
     rw none at (inv .whole q l (omega arith))
 
 pub fill-again : (all rest : List Bof) (T : List ℕ) (lo p k n c : ℕ) → Filling all (record { start = p; kind = k } ∷ rest) T lo p
-    → lo ≤ p → p - lo < 983040 → 0 < k → k < 8 → p + 20 ≤ n → length T ≡ 49152 → c ≡ codeOf (p - lo) k → Filling all rest (set T ((p - lo) / 20) c) lo n
+    → lo ≤ p → p - lo < 1277952 → 0 < k → k < 8 → p + 24 ≤ n → length T ≡ 53248 → c ≡ codeOf (p - lo) k → Filling all rest (set T ((p - lo) / 24) c) lo n
 unfolding starts
 fill-again all rest T lo p k n c inv from low some small far size e =
-    let here : getD T ((p - lo) / 20) 0 ≡ 0 = inv .ahead ((p - lo) / 20) (omega arith) in
+    let here : getD T ((p - lo) / 24) 0 ≡ 0 = inv .ahead ((p - lo) / 24) (omega arith) in
     rw e
     (record {
-      ahead = λ j le. getD-set-other T ((p - lo) / 20) j (codeOf (p - lo) k) 0 (λ f. (omega arith)) ∙ inv .ahead j (omega arith);
+      ahead = λ j le. getD-set-other T ((p - lo) / 24) j (codeOf (p - lo) k) 0 (λ f. (omega arith)) ∙ inv .ahead j (omega arith);
       whole = λ q l h.
           ap (λ (b : Bool). b || starts rest q l) (put T lo p k q l size from low some small here)
           ∙ or-move (eqb p q && eqb k l) (marks T lo q l) (starts rest q l)
@@ -250,7 +250,7 @@ and-not-or true false true = refl
 and-not-or true false false = refl
 and-not-or false b c = refl
 
-pub pass-low : (T : List ℕ) (lo q k : ℕ) → marks T lo q k ≡ true → (lo ≤ q) × ((q - lo) / 20 < 49152)
+pub pass-low : (T : List ℕ) (lo q k : ℕ) → marks T lo q k ≡ true → (lo ≤ q) × ((q - lo) / 24 < 53248)
 pass-low T lo q k y = let m : Mark T lo q k = mark T lo q k y in let f = m .from in let l = m .low in omega arith
 
 pub pass-done : (bofs : List Bof) (all : List Sheet) (T : List ℕ) (lo hi : ℕ) → Passing bofs all [] T lo hi → Passed T lo hi all bofs Agree
@@ -286,7 +286,7 @@ module _ (bofs : List Bof) (all rest : List Sheet) (T : List ℕ) (lo hi o q k :
         let not-right : starts bofs q k && not (named (inv .earlier) q) ≡ false = sym (inv .marked q k in-window) ∙ y in
         sym (sym (inv .same) ∙ rw (in-window, not-right) refl)
 
-    pub pass-again : marks T lo q k ≡ true → length T ≡ 49152 → Passing bofs all rest (set T ((q - lo) / 20) 0) lo hi
+    pub pass-again : marks T lo q k ≡ true → length T ≡ 53248 → Passing bofs all rest (set T ((q - lo) / 24) 0) lo hi
     unfolding judgedIn named pick
     pass-again there size =
         let is-right : starts bofs q k && not (named (inv .earlier) q) ≡ true = sym (inv .marked q k in-window) ∙ there in

@@ -14,14 +14,14 @@ use Rattle.sheetlist.specs.declared.Agreement.the-variants.{Agree, Disag
 unfoldable pub inside : ℕ → ℕ → ℕ → Bool
 inside lo hi p = not (ltb p lo) && (eqb hi 0 || ltb p hi)
 
--- A slot is 20 positions wide, as a BOF is, so that two BOFs never share one. What stands in it where a BOF of kind k starts d after the window's start;
+-- A slot is 24 positions wide, the least size of a substream, so that two BOFs never share one. What stands in it where a BOF of kind k starts d after the window's start;
 -- an empty one has 0.
 abbrev pub codeOf : ℕ → ℕ → ℕ
-codeOf d k = d % 20 * 8 + k
+codeOf d k = d % 24 * 8 + k
 
 -- the table, whose first slot is at lo, has a BOF of kind k that starts at p
 unfoldable pub marks : List ℕ → ℕ → ℕ → ℕ → Bool
-marks T lo p k = not (ltb p lo) && (ltb (p - lo) 983040 && (ltb 0 k && (ltb k 8 && eqb (getD T ((p - lo) / 20) 0) (codeOf (p - lo) k))))
+marks T lo p k = not (ltb p lo) && (ltb (p - lo) 1277952 && (ltb 0 k && (ltb k 8 && eqb (getD T ((p - lo) / 24) 0) (codeOf (p - lo) k))))
 
 -- within its window the table has the BOFs that none of the sheets names
 abbrev pub Marked : List ℕ → ℕ → ℕ → List Bof → List Sheet → Type 0

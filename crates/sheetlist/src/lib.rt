@@ -1,4 +1,4 @@
-// The slots by which the sheet list is held against the substreams, a window of 983,040 positions at a time: two passes over its BOFs and one over the
+// The slots by which the sheet list is held against the substreams, a window of 1,277,952 positions at a time: two passes over its BOFs and one over the
 // sheets.
 ghost use mathlib.Core.Path.{_≡_};
 ghost use Prim.Native.Nat.{_<_};
@@ -56,18 +56,18 @@ pub fn code(d: usize, kind: u32) -> u8
     requires { ⌜ kind < 8 ⌝ }
     ensures { λ r. ⌜ r ≡ codeOf d kind ⌝ }
 {
-    ((d % 20) * 8 + le::u32_as_usize(kind)) as u8
+    ((d % 24) * 8 + le::u32_as_usize(kind)) as u8
 }
 
 // Whether the slots have a BOF of this kind that starts at a position.
-pub fn has(slots: &[u8; 49152], lo: usize, p: usize, kind: u32) -> bool
+pub fn has(slots: &[u8; 53248], lo: usize, p: usize, kind: u32) -> bool
     ensures { λ r. ⌜ r ≡ marks (now (slots .entry)) lo p kind ⌝ }
 {
     if p < lo {
         return false;
     }
     let d = p - lo;
-    if 983040 <= d {
+    if 1277952 <= d {
         return false;
     }
     if kind == 0 {
@@ -76,5 +76,5 @@ pub fn has(slots: &[u8; 49152], lo: usize, p: usize, kind: u32) -> bool
     if 7 < kind {
         return false;
     }
-    slots[d / 20] == code(d, kind)
+    slots[d / 24] == code(d, kind)
 }

@@ -88,7 +88,7 @@ module _ (s : List ℕ) (u from lo : ℕ) (T : List ℕ) (at : ℕ) (inv : Filli
   pub fill-done : (r : Found) → r ≡ bofAt s u at → r ≡ found.None → Filled s u from lo T 0
   fill-done r is h = fill-none (bofs-done s u at r is h)
 
-  pub fill-full : at < length s → 983040 ≤ at - lo → Filled s u from lo T at
+  pub fill-full : at < length s → 1277952 ≤ at - lo → Filled s u from lo T at
   fill-full short full =
       let low = inv .low in
       record {
@@ -107,7 +107,7 @@ module _ (s : List ℕ) (u from lo : ℕ) (T : List ℕ) (at : ℕ) (inv : Filli
     pub fill-small : k < 8
     fill-small = let i = bofs-next s u at r is k e h in omega arith
 
-    pub fill-again : (c : ℕ) → at - lo < 983040 → length T ≡ 49152 → c ≡ codeOf (at - lo) k → Filling s u from lo (set T ((at - lo) / 20) c) e
+    pub fill-again : (c : ℕ) → at - lo < 1277952 → length T ≡ 53248 → c ≡ codeOf (at - lo) k → Filling s u from lo (set T ((at - lo) / 24) c) e
     fill-again c short size j =
         let i = bofs-next s u at r is k e h in
         let low = inv .low in
@@ -144,13 +144,13 @@ module _ (s T₀ T : List ℕ) (lo hi p : ℕ) (r : Bound) (is : r ≡ boundAt s
       pub pass-low : b ≡ true → lo ≤ q′
       pass-low y = list.pass-low T lo q′ k (sym has ∙ y) .0
 
-      pub pass-slot : b ≡ true → (q′ - lo) / 20 < 49152
+      pub pass-slot : b ≡ true → (q′ - lo) / 24 < 53248
       pass-slot y = list.pass-low T lo q′ k (sym has ∙ y) .1
 
       pub pass-fault : b ≡ false → PassedAll T₀ T lo hi (sheetsOf s) (Disagree o)
       pass-fault y = record { for-all = λ bofs m. list.pass-fault bofs (sheetsOf s) (sheetsFrom s n) T lo hi o q′ k (here bofs m) (sym in-window ∙ x) (sym has ∙ y) }
 
-      pub pass-again : b ≡ true → length T ≡ 49152 → Passing s T₀ (set T ((q′ - lo) / 20) 0) lo hi n
+      pub pass-again : b ≡ true → length T ≡ 53248 → Passing s T₀ (set T ((q′ - lo) / 24) 0) lo hi n
       pass-again y size = record { for-all = λ bofs m. list.pass-again bofs (sheetsOf s) (sheetsFrom s n) T lo hi o q′ k (here bofs m) (sym in-window ∙ x) (sym has ∙ y) size }
 
 pub ruleset pass-laws = (pass-start, pass-done, pass-skip, pass-by, pass-low, pass-slot, pass-fault, pass-again, sheets-less, skip-less)

@@ -1,5 +1,5 @@
 // The walk of the top-level substreams with the sheet list held against it: refusal 10. Sheets that name the BOFs in their order, as writers write
-// them, are settled inside the walk; for any other order the BOFs are put into slots of 20 positions, 49,152 slots at a time, so that the stack holds them:
+// them, are settled inside the walk; for any other order the BOFs are put into slots of 24 positions, 53,248 slots at a time, so that the stack holds them:
 // each window walks its own BOFs twice, and all sheets once.
 ghost use mathlib.Core.Path.{_≡_};
 ghost use Prim.Native.Nat.{_≤_};
@@ -36,9 +36,9 @@ pub struct Window {
 }
 
 // Puts each BOF from a place on into its slot, up to the window's last slot. Gives the place of the next BOF, or 0 if there is none.
-fn fill(s: &[u8], unique: u32, from: usize, lo: usize, slots: &mut [u8; 49152]) -> usize
-    requires { ⌜ (length (now slots) ≡ 49152) × Empty (now slots) × (lo ≤ from) ⌝ }
-    ensures { λ r. ⌜ (length (now (slots .exit)) ≡ 49152) × Filled (now (s .entry)) unique from lo (now (slots .exit)) r ⌝ }
+fn fill(s: &[u8], unique: u32, from: usize, lo: usize, slots: &mut [u8; 53248]) -> usize
+    requires { ⌜ (length (now slots) ≡ 53248) × Empty (now slots) × (lo ≤ from) ⌝ }
+    ensures { λ r. ⌜ (length (now (slots .exit)) ≡ 53248) × Filled (now (s .entry)) unique from lo (now (slots .exit)) r ⌝ }
 {
     let mut at = from;
     loop {
@@ -46,13 +46,13 @@ fn fill(s: &[u8], unique: u32, from: usize, lo: usize, slots: &mut [u8; 49152]) 
             return 0;
         }
         let d = at - lo;
-        if 983040 <= d {
+        if 1277952 <= d {
             return at;
         }
         match toplevel::bof_at(s, unique, at) {
             toplevel::Found::Bof { kind, end } => {
                 let c = sheetlist::code(d, kind);
-                slots[d / 20] = c;
+                slots[d / 24] = c;
                 at = end;
             }
             toplevel::Found::None => {
@@ -63,8 +63,8 @@ fn fill(s: &[u8], unique: u32, from: usize, lo: usize, slots: &mut [u8; 49152]) 
 }
 
 // Takes the BOF that each sheet of the window names out of its slot, up to a sheet whose BOF isn't there.
-fn pass(s: &[u8], lo: usize, hi: usize, slots: &mut [u8; 49152]) -> Agreement
-    requires { ⌜ length (now slots) ≡ 49152 ⌝ }
+fn pass(s: &[u8], lo: usize, hi: usize, slots: &mut [u8; 53248]) -> Agreement
+    requires { ⌜ length (now slots) ≡ 53248 ⌝ }
     ensures { λ r. ⌜ PassedAll (now (slots .entry)) (now (slots .exit)) lo hi (sheetsOf (now (s .entry))) r ⌝ }
 {
     let mut p: usize = 20;
@@ -79,7 +79,7 @@ fn pass(s: &[u8], lo: usize, hi: usize, slots: &mut [u8; 49152]) -> Agreement
                 let q = le::u32_as_usize(position);
                 if sheetlist::inside(lo, hi, q) {
                     if sheetlist::has(slots, lo, q, kind) {
-                        slots[(q - lo) / 20] = 0;
+                        slots[(q - lo) / 24] = 0;
                         p = next;
                     } else {
                         return Agreement::Disagree(header);
@@ -99,7 +99,7 @@ fn pass(s: &[u8], lo: usize, hi: usize, slots: &mut [u8; 49152]) -> Agreement
 }
 
 // The first BOF of the window that is still in its slot.
-fn left(s: &[u8], unique: u32, from: usize, lo: usize, hi: usize, slots: &[u8; 49152]) -> Remaining
+fn left(s: &[u8], unique: u32, from: usize, lo: usize, hi: usize, slots: &[u8; 53248]) -> Remaining
     requires { ⌜ (lo ≤ from) × (hi ≤ length (now s)) × Marked (now slots) lo hi (bofsFrom (now s) unique from) (sheetsOf (now s)) ⌝ }
     ensures { λ r. ⌜ Lefts (now (s .entry)) unique from hi r ⌝ }
 {
@@ -124,8 +124,8 @@ fn left(s: &[u8], unique: u32, from: usize, lo: usize, hi: usize, slots: &[u8; 4
 }
 
 // With empty slots.
-fn with_slots(s: &[u8], unique: u32, from: usize, lo: usize, slots: &mut [u8; 49152]) -> Window
-    requires { ⌜ (length (now slots) ≡ 49152) × Empty (now slots) × (lo ≤ from) ⌝ }
+fn with_slots(s: &[u8], unique: u32, from: usize, lo: usize, slots: &mut [u8; 53248]) -> Window
+    requires { ⌜ (length (now slots) ≡ 53248) × Empty (now slots) × (lo ≤ from) ⌝ }
     ensures { λ r. ⌜ Windowed (now (s .entry)) unique from lo r ⌝ }
 {
     let hi = fill(s, unique, from, lo, slots);
@@ -157,7 +157,7 @@ fn window_from(s: &[u8], unique: u32, from: usize, lo: usize) -> Window
     requires { ⌜ lo ≤ from ⌝ }
     ensures { λ r. ⌜ Windowed (now (s .entry)) unique from lo r ⌝ }
 {
-    let mut slots = [0u8; 49152];
+    let mut slots = [0u8; 53248];
     with_slots(s, unique, from, lo, &mut slots)
 }
 

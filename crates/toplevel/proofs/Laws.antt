@@ -156,9 +156,9 @@ kind-small : (k : ℕ) → Small (bofKind k)
 unfolding bofKind
 kind-small k = pick-any Small _ (omega arith) (pick-any Small _ (omega arith) (pick-any Small _ (omega arith) (omega arith)))
 
--- the next BOF is a BOF's record away at least
+-- the next BOF is a substream away, 24 bytes at least
 abbrev pub Apart : List ℕ → ℕ → Found → Type 0
-Apart s at (found.Bof k e) = (at + 20 ≤ e) × (e ≤ length s) × (0 < k) × (k < 8)
+Apart s at (found.Bof k e) = (at + 24 ≤ e) × (e ≤ length s) × (0 < k) × (k < 8)
 Apart s at found.None = Unit {0}
 
 apart-ended : (s : List ℕ) (u at k : ℕ) → (bofKind k ≡ 0 → ⊥) → (a : Ended) → substreamIn 4 s u k at ≡ a → Apart s at (onEnded k a)

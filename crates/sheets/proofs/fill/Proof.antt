@@ -7,7 +7,7 @@ use Rattle.sheets.proofs.fill.Statement.{statement}
 use Rattle.sheets.proofs.fill.Tie as tie
 
 abbrev Inv-loop : tie.InvT-loop
-Inv-loop s unique from lo slots₀ at₀ slots at = (length slots ≡ 49152) × Filling s unique at₀ lo slots at
+Inv-loop s unique from lo slots₀ at₀ slots at = (length slots ≡ 53248) × Filling s unique at₀ lo slots at
 
 abbrev μ-loop : tie.MeasureT-loop
 μ-loop s unique from lo slots₀ at₀ slots at = length s - at

@@ -7,7 +7,7 @@ use Rattle.sheets.proofs.pass.Statement.{statement}
 use Rattle.sheets.proofs.pass.Tie as tie
 
 abbrev Inv-loop : tie.InvT-loop
-Inv-loop s lo hi slots₀ p₀ slots p = (length slots ≡ 49152) × Passing s slots₀ slots lo hi p
+Inv-loop s lo hi slots₀ p₀ slots p = (length slots ≡ 53248) × Passing s slots₀ slots lo hi p
 
 abbrev μ-loop : tie.MeasureT-loop
 μ-loop s lo hi slots₀ p₀ slots p = length s - p

@@ -8,6 +8,6 @@ window-from-spec =
     tie.close
     (tie.spec
     -- with-slots-requires
-    (λ c κs. (zeros-length 49152, no-marks 49152, c .before .before .pre))
+    (λ c κs. (zeros-length 53248, no-marks 53248, c .before .before .pre))
     -- returns
     (λ c. search needs))
