@@ -1,4 +1,4 @@
-//! compare [COUNT [FIRST]]: asks the proved library and the second reader the same questions about made streams, formulas and corrections, one of
+//! `compare [COUNT [FIRST]]`: asks the proved library and the second reader the same questions about made streams, formulas and corrections, one of
 //! each seed from FIRST (0) on. Answers, offsets, and every lent byte and unit before and after must agree. Prints how often each refusal was met; the
 //! exit status is 1 where there was a difference, or where a refusal was met fewer than a hundred times in a run of 100,000 seeds or more.
 
