@@ -1,8 +1,22 @@
-/* The five questions about a workbook stream, for C. Link target/staticlib/libstation_c.a (rt staticlib station_c).
+/* The five questions about a workbook stream, for C. Link libstation (make install; pkg-config station), or the archive itself,
+ * target/staticlib/libstation_c.a (rt staticlib station_c).
  *
- * Every function is defined for every argument: any bytes, any place, any number. A slice is a pointer and a length; a lent
- * slice must be valid for its length, and the pointer of an empty one must not be null and must be aligned. A refusal's number
- * is 0 where there is none; what isn't answered is 0. After a refusal all lent memory holds what it held. */
+ * Answers. Every function is defined for every argument: any bytes, any place, any number. A refusal's number is 0 where there is
+ * none; what isn't answered is 0. After a refusal all lent memory holds what it held.
+ *
+ * Lent memory. A slice is a pointer and a length, counted in what the pointer points to: bytes for a stream and for tokens, 16-bit
+ * units for the room of a string, 64-bit words for the room of cells. It must be valid for its length; the pointer of an empty one
+ * must not be null, and all must be aligned. A stream and the buffer that is written must not overlap. Nothing is kept after a call.
+ *
+ * Places (sheet, segment, at, end, part, level, next) are plain numbers, good for the stream that gave them until it is changed. A
+ * granted correction moves none. With other numbers, or over other bytes, a function still ends, with some answer.
+ *
+ * Threads. There is no state beside the arguments, no allocation and no lock: any number of threads may ask at the same time, each
+ * with its own buffers. A stream that is lent as const may be lent to many at once, but not while station_correct has it.
+ *
+ * Stack. No question needs more than 64 KB, whatever the stream.
+ *
+ * The longest stream has 16,777,216 bytes; a longer one is refused without a look at its bytes. */
 #ifndef VAIGUNTHE_STATION_H
 #define VAIGUNTHE_STATION_H
 
@@ -13,6 +27,35 @@
 #ifdef __cplusplus
 extern "C" {
 #endif
+
+/* the version of this header: major * 1,000,000 + minor * 1,000 + patch, here 0.1.0 */
+#define STATION_VERSION 1000
+
+#define STATION_LONGEST_STREAM 16777216 /* bytes */
+#define STATION_LONGEST_STRING 65535    /* units: a buffer of so many takes any string */
+#define STATION_CELL_WORDS 4            /* words: the room that one cell takes */
+
+/* The refusals. Where nothing else is said the offset is that of the header of the record being read. */
+enum station_refusal {
+    STATION_TOO_LONG = 1,         /* the stream is longer than 16,777,216 bytes; offset 0 */
+    STATION_CUT_RECORD = 2,       /* a record's header or body passes the end of the stream, or its body is over 8,224 bytes */
+    STATION_NO_GLOBALS = 3,       /* the stream is empty, or its first record is not the BOF of the globals; offset 0 */
+    STATION_BAD_SUBSTREAMS = 4,   /* the rules of how substreams start, nest, follow each other and end are broken; where the stream ends, its length */
+    STATION_ENCRYPTED = 5,        /* the workbook is encrypted: FILEPASS among the globals */
+    STATION_BAD_RECORD = 6,       /* a record that is read has a wrong size or field */
+    STATION_BAD_CONTINUE = 7,     /* a CONTINUE record has no parent to continue */
+    STATION_BAD_STRINGS = 8,      /* the shared string table is broken; the offset is that of the segment being read */
+    STATION_BAD_INDEX = 9,        /* a text cell's index is not below the number of shared strings */
+    STATION_BAD_SHEETS = 10,      /* the sheet list and the substreams disagree; at the BOUNDSHEET, or the BOF that none names */
+    STATION_ABSENT = 11,          /* the sheet, string or cell asked for is absent; offset 0 */
+    STATION_NO_ROOM = 12,         /* the buffer has fewer units than the string; offset 0 */
+    STATION_BAD_TOKEN = 13,       /* the formula has an unknown, cut or misplaced token, or a bad length; the offset is the token's */
+    STATION_BAD_STACK = 14,       /* the formula's stack runs short, or does not end with one operand; at the token, or the formula's end */
+    STATION_BAD_FUNCTION = 15,    /* the formula has no such function, or uses it wrongly; the offset is the token's */
+    STATION_AMBIGUOUS = 16,       /* correction: two or more cells have the address; offset 0 */
+    STATION_WRONG_KIND = 17,      /* correction: the cell's kind does not take this kind of value; offset 0 */
+    STATION_DOES_NOT_FIT = 18,    /* correction: the value does not fit the cell; offset 0 */
+};
 
 struct station_check { uint8_t number; size_t offset; size_t sheets; uint32_t strings; size_t sheet; size_t segment; size_t at; size_t end; };
 struct station_answer { uint8_t number; size_t offset; };
@@ -25,7 +68,7 @@ struct station_check station_check(const uint8_t *stream, size_t length);
 /* judge: a formula's token bytes */
 struct station_answer station_judge(const uint8_t *tokens, size_t length);
 
-/* fetch: the units of a shared string at the front of the buffer; later units stay */
+/* fetch: the units of a shared string at the front of the buffer; later units stay. room is the buffer's length in units. */
 struct station_units station_fetch(const uint8_t *stream, size_t length, uint32_t index, uint16_t *units, size_t room);
 
 /* the same for the next string from a place on, and the place after it. number is 12 where the buffer has fewer units than the
@@ -48,7 +91,9 @@ uint32_t station_rows(const uint8_t *stream, size_t length, size_t at, uint16_t 
  *   the value: a number's 64 bits, a text's index, a truth or an error code, else 0;
  *   the offset of the value field; the number of a formula's token bytes, which start 16 bytes after it.
  * Kinds: 0 blank, 1 number, 2 text, 3 truth, 4 error; a formula's result: 5 number, 6 text, 7 truth, 8 error, 9 empty.
- * The list ended, or goes on at the place at, part, level. */
+ * A blank's value field is its format.
+ * room is the buffer's length in words; words after the cells that were written stay. The list ended, or goes on at the place at,
+ * part, level. With room for less than one cell (under four words) it neither moves nor ends: a loop would go on for ever. */
 struct station_cells { uint8_t number; size_t offset; size_t at; uint16_t part; uint8_t level; };
 struct station_filled { size_t cells; bool ended; size_t at; uint16_t part; uint8_t level; };
 struct station_cells station_cells(const uint8_t *stream, size_t length, uint32_t sheet);
