@@ -2,6 +2,10 @@
  *
  *     rt staticlib station_c
  *     cc -std=c11 -Iinclude examples/list.c target/staticlib/libstation_c.a -o list
+ *
+ * or, where the library is installed,
+ *
+ *     cc -std=c11 list.c $(pkg-config --cflags --libs station) -o list
  */
 #include <inttypes.h>
 #include <stdio.h>
@@ -9,7 +13,8 @@
 
 #include "station.h"
 
-enum { LIMIT = 16777216, BATCH = 128 };
+/* One byte more than a stream may have is enough for the library to refuse it. */
+enum { ENOUGH = STATION_LONGEST_STREAM + 1, BATCH = 128 };
 
 struct place { size_t at; uint16_t part; uint8_t level; };
 
@@ -28,11 +33,11 @@ static void print_cell(const uint64_t *words) {
 
 /* Goes through the cells from a place on, prints them if asked to, and counts them. */
 static size_t go_through(const uint8_t *stream, size_t length, struct place from, bool print) {
-    uint64_t words[4 * BATCH];
+    uint64_t words[STATION_CELL_WORDS * BATCH];
     size_t count = 0;
     for (;;) {
-        struct station_filled batch = station_next_cells(stream, length, from.at, from.part, from.level, words, 4 * BATCH);
-        for (size_t i = 0; print && i < batch.cells; i++) print_cell(words + 4 * i);
+        struct station_filled batch = station_next_cells(stream, length, from.at, from.part, from.level, words, STATION_CELL_WORDS * BATCH);
+        for (size_t i = 0; print && i < batch.cells; i++) print_cell(words + STATION_CELL_WORDS * i);
         count += batch.cells;
         if (batch.ended) return count;
         from = (struct place){batch.at, batch.part, batch.level};
@@ -53,10 +58,8 @@ static size_t all_sheets(const uint8_t *stream, size_t length, size_t first, boo
     }
 }
 
-int main(void) {
-    uint8_t *stream = malloc(LIMIT + 1);
-    if (stream == NULL) return 2;
-    size_t length = fread(stream, 1, LIMIT + 1, stdin);
+/* Lists a stream, or says why not. */
+static int list(const uint8_t *stream, size_t length) {
     struct station_check check = station_check(stream, length);
     if (check.number != 0) {
         printf("refused %u at %zu\n", (unsigned)check.number, check.offset);
@@ -64,6 +67,14 @@ int main(void) {
     }
     printf("sheets %zu strings %" PRIu32 " cells %zu\n", check.sheets, check.strings, all_sheets(stream, length, check.sheet, false));
     all_sheets(stream, length, check.sheet, true);
-    free(stream);
     return 0;
+}
+
+int main(void) {
+    uint8_t *stream = malloc(ENOUGH);
+    if (stream == NULL) return 2;
+    size_t length = fread(stream, 1, ENOUGH, stdin);
+    int status = ferror(stdin) ? 2 : list(stream, length);
+    free(stream);
+    return fflush(stdout) == 0 ? status : 2;
 }
