@@ -1,5 +1,34 @@
 //! The proved library for Rust: a thin safe layer over its C functions. What each function answers is proved, for every argument; this layer only
 //! turns plain numbers into names.
+//!
+//! ```
+//! use station::{NewValue, Value};
+//!
+//! let mut stream = std::fs::read("../../cases/cells.in").expect("a workbook stream");
+//!
+//! let workbook = station::check(&stream)?;
+//! let sheet = workbook.sheets().next().expect("a sheet");
+//! assert!(sheet.name_units().eq("Sheet1".encode_utf16()));
+//! let cell = sheet.cells().find(|cell| (cell.row(), cell.column()) == (0, 1));
+//! let pi = Value::Number(std::f64::consts::PI.to_bits());
+//! assert_eq!(cell.map(|cell| cell.value()), Some(pi));
+//!
+//! station::correct(&mut stream, 0, 0, 1, NewValue::Number(2.5))?;
+//! let cell = station::cells(&stream, 0)?.find(|cell| (cell.row(), cell.column()) == (0, 1));
+//! assert_eq!(cell.map(|cell| cell.value()), Some(Value::Number(2.5f64.to_bits())));
+//!
+//! let refused = station::judge(&[0x1E, 0x01]).expect_err("a cut token");
+//! assert_eq!((refused.number, refused.offset), (13, 0));
+//! # Ok::<(), station::Refusal>(())
+//! ```
+//!
+//! - A stream has at most 16,777,216 bytes; a longer one is refused with number 1.
+//! - After a refusal all lent memory holds what it held.
+//! - The library has no state, allocates nothing and takes no lock: any number of threads may ask at the same time, about one stream or many.
+//!   Of this layer [`Strings`] has a buffer on the heap, of [`LONGEST_STRING`] units.
+//! - No question needs more than 64 KB of stack, whatever the stream; a [`Cells`], which holds a batch of them, is 4 KB large itself.
+
+#![warn(missing_docs)]
 
 mod raw;
 
@@ -9,7 +38,9 @@ use std::ops::Range;
 /// A refusal: its number in the table, and the offset at which it was given.
 #[derive(Clone, Copy, Debug, PartialEq, Eq)]
 pub struct Refusal {
+    /// Its number in the table.
     pub number: u8,
+    /// Where it was given: a record's or a token's offset, the end, or 0.
     pub offset: usize,
 }
 
@@ -39,6 +70,7 @@ pub struct Workbook<'a> {
     first_string: StringPlace,
 }
 
+/// Checks a stream: how many sheets and strings it has, or the first fault.
 pub fn check(stream: &[u8]) -> Result<Workbook<'_>, Refusal> {
     // SAFETY: the slice is valid for its length.
     let answer = unsafe { raw::station_check(stream.as_ptr(), stream.len()) };
@@ -175,14 +207,19 @@ pub struct Sheet<'a> {
     pub name: &'a [u8],
     /// Bytes a character of the name: 1 or 2.
     pub width: usize,
+    /// What it is. Only worksheets list cells.
     pub kind: SheetKind,
     first: Place,
 }
 
+/// The type of a sheet.
 #[derive(Clone, Copy, Debug, PartialEq, Eq)]
 pub enum SheetKind {
+    /// A worksheet.
     Worksheet,
+    /// A macro sheet.
     Macro,
+    /// A chart sheet.
     Chart,
 }
 
@@ -215,6 +252,7 @@ impl<'a> Sheet<'a> {
         unsafe { raw::station_rows(self.stream.as_ptr(), self.stream.len(), at, part, level) }
     }
 
+    /// Its cells, in stream order.
     pub fn cells(&self) -> Cells<'a> {
         Cells::from(self.stream, self.first)
     }
@@ -255,21 +293,32 @@ impl<'a> Iterator for Sheets<'a> {
 /// A formula's stored result. A number is its 64 bits.
 #[derive(Clone, Copy, Debug, PartialEq, Eq)]
 pub enum FormulaResult {
+    /// A number, infinities and NaN patterns included.
     Number(u64),
+    /// A text, which stands elsewhere.
     Text,
+    /// 0 or 1.
     Truth(u8),
+    /// An error code.
     Error(u8),
+    /// An empty result.
     Empty,
 }
 
 /// A cell's value. A number is its 64 bits.
 #[derive(Clone, Copy, Debug, PartialEq, Eq)]
 pub enum Value {
+    /// No value, only a format.
     Blank,
+    /// A number, infinities and NaN patterns included.
     Number(u64),
+    /// The index of a shared string.
     Text(u32),
+    /// 0 or 1.
     Truth(u8),
+    /// An error code.
     Error(u8),
+    /// What a formula came to when it was last reckoned.
     Formula(FormulaResult),
 }
 
@@ -278,10 +327,12 @@ pub enum Value {
 pub struct Cell([u64; 4]);
 
 impl Cell {
+    /// Its row, from 0.
     pub fn row(&self) -> u16 {
         self.0[0] as u16
     }
 
+    /// Its column, from 0 to 255.
     pub fn column(&self) -> u16 {
         (self.0[0] >> 16) as u16
     }
@@ -291,6 +342,7 @@ impl Cell {
         (self.0[0] >> 32) as u16
     }
 
+    /// Whether it has no value.
     pub fn is_blank(&self) -> bool {
         self.0[0] >> 48 == 0
     }
@@ -300,6 +352,7 @@ impl Cell {
         self.0[1]
     }
 
+    /// Its value.
     pub fn value(&self) -> Value {
         let bits = self.bits();
         match self.0[0] >> 48 {
@@ -434,11 +487,16 @@ impl Iterator for Cells<'_> {
     }
 }
 
+/// What a correction writes.
 #[derive(Clone, Copy, Debug, PartialEq)]
 pub enum NewValue {
+    /// A number, for a cell that holds one; packed cells take what an undivided RK word means.
     Number(f64),
+    /// The index of a shared string, for a text cell.
     Text(u32),
+    /// 0 or 1, for a cell that holds a truth or an error.
     Truth(u8),
+    /// An error code, for a cell that holds a truth or an error.
     Error(u8),
 }
 

@@ -1,0 +1,44 @@
+//! Many threads ask at the same time, about one stream and about copies of it: each gets what it would get alone.
+
+use station::{cells, check, correct, fetch, judge, Cell, NewValue, Refusal};
+use std::sync::Barrier;
+use std::thread;
+
+const STREAM: &[u8] = include_bytes!("../../../cases/cells.in");
+const THREADS: usize = 8;
+const TURNS: usize = 200;
+
+/// All five questions: counts, sheets with their cells, strings, judgements, and a corrected copy.
+fn answers(stream: &[u8]) -> impl PartialEq + std::fmt::Debug {
+    let workbook = check(stream).expect("a stream that passes");
+    let sheets: Vec<(Vec<u16>, u32)> = workbook
+        .sheets()
+        .map(|sheet| (sheet.name_units().collect(), sheet.rows()))
+        .collect();
+    let listed: Result<Vec<Cell>, Refusal> = cells(stream, 0).map(Iterator::collect);
+    let strings: Vec<Vec<u16>> = workbook.strings().collect();
+    let mut units = [0; 16];
+    let fetched = fetch(stream, 1, &mut units);
+    let judged = [&[0x1E, 0x01, 0x00][..], &[0x1E, 0x01]].map(judge);
+    let mut copy = stream.to_vec();
+    let corrected = correct(&mut copy, 0, 0, 1, NewValue::Number(2.5));
+    (
+        sheets, listed, strings, fetched, units, judged, corrected, copy,
+    )
+}
+
+#[test]
+fn each_gets_its_own_answers() {
+    let alone = answers(STREAM);
+    let start = Barrier::new(THREADS);
+    thread::scope(|scope| {
+        for _ in 0..THREADS {
+            scope.spawn(|| {
+                start.wait();
+                for _ in 0..TURNS {
+                    assert_eq!(answers(STREAM), alone);
+                }
+            });
+        }
+    });
+}
