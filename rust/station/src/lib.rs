@@ -322,6 +322,33 @@ pub enum Value {
     Formula(FormulaResult),
 }
 
+/// As the program prints it: `number 400921FB54442D18`, `text`, `truth 1`, `error 2A` or `empty`.
+impl fmt::Display for FormulaResult {
+    fn fmt(&self, f: &mut fmt::Formatter<'_>) -> fmt::Result {
+        match self {
+            FormulaResult::Number(bits) => write!(f, "number {bits:016X}"),
+            FormulaResult::Text => f.write_str("text"),
+            FormulaResult::Truth(truth) => write!(f, "truth {truth}"),
+            FormulaResult::Error(code) => write!(f, "error {code:02X}"),
+            FormulaResult::Empty => f.write_str("empty"),
+        }
+    }
+}
+
+/// As the program prints it: `blank`, `number 400921FB54442D18`, `text 3`, `truth 1`, `error 2A`, or `formula` and its result.
+impl fmt::Display for Value {
+    fn fmt(&self, f: &mut fmt::Formatter<'_>) -> fmt::Result {
+        match self {
+            Value::Blank => f.write_str("blank"),
+            Value::Number(bits) => write!(f, "number {bits:016X}"),
+            Value::Text(index) => write!(f, "text {index}"),
+            Value::Truth(truth) => write!(f, "truth {truth}"),
+            Value::Error(code) => write!(f, "error {code:02X}"),
+            Value::Formula(result) => write!(f, "formula {result}"),
+        }
+    }
+}
+
 /// A cell, in the four words that the library gives for it.
 #[derive(Clone, Copy, PartialEq, Eq)]
 pub struct Cell([u64; 4]);
@@ -378,6 +405,13 @@ impl Cell {
     pub fn tokens(&self) -> Range<usize> {
         let start = self.field() + 16;
         start..start + self.0[3] as usize
+    }
+}
+
+/// As the program prints it: row, column and value.
+impl fmt::Display for Cell {
+    fn fmt(&self, f: &mut fmt::Formatter<'_>) -> fmt::Result {
+        write!(f, "{} {} {}", self.row(), self.column(), self.value())
     }
 }
 

@@ -1,0 +1,111 @@
+//! The questions, and how each is answered.
+
+use crate::words::{bytes, number};
+use station::{Cell, Refusal};
+use std::fmt::Write;
+
+/// A question: its name, the words after it, what it asks, and the answer to such words; none where they are not what it takes.
+struct Question {
+    name: &'static str,
+    words: &'static str,
+    asks: &'static str,
+    answer: fn(&[&[u8]]) -> Option<String>,
+}
+
+/// All of them.
+const QUESTIONS: [Question; 3] = [
+    Question {
+        name: "check",
+        words: "S",
+        asks: "whether the stream passes",
+        answer: check,
+    },
+    Question {
+        name: "judge",
+        words: "TOKENS TRAILING",
+        asks: "whether a formula's bytes are right; TRAILING is - in this version",
+        answer: judge,
+    },
+    Question {
+        name: "cells",
+        words: "S SHEET",
+        asks: "the cells of a sheet, with format and place",
+        answer: cells,
+    },
+];
+
+/// The answer to a line, without its end; none where it is no question.
+pub fn answer(line: &[u8]) -> Option<String> {
+    let words: Vec<&[u8]> = line.split(|&byte| byte == b'\t').collect();
+    let (name, words) = words.split_first()?;
+    let question = QUESTIONS
+        .iter()
+        .find(|question| question.name.as_bytes() == *name)?;
+    (question.answer)(words)
+}
+
+/// What is asked and how, a line each.
+pub fn help() -> String {
+    let mut help = String::from(
+        "ask: answers questions about workbook streams, one a line from standard input, words separated by tabs, with one line each.\n\
+         Streams (S) and formula bytes are in hex, - is none, numbers are decimal. A line that is no question gets 'wrong question'.\n\n",
+    );
+    for question in &QUESTIONS {
+        let usage = format!("{} {}", question.name, question.words);
+        // Writing to a string never fails.
+        let _ = writeln!(help, "  {usage:24}{}", question.asks);
+    }
+    help
+}
+
+/// `ok`, or the refusal.
+fn settled(answer: Result<(), Refusal>) -> String {
+    match answer {
+        Ok(()) => "ok".to_string(),
+        Err(refusal) => refused(refusal),
+    }
+}
+
+fn refused(refusal: Refusal) -> String {
+    format!("refused {} at {}", refusal.number, refusal.offset)
+}
+
+fn check(words: &[&[u8]]) -> Option<String> {
+    let [stream] = words else { return None };
+    Some(settled(station::check(&bytes(stream)?).map(|_| ())))
+}
+
+fn judge(words: &[&[u8]]) -> Option<String> {
+    let [tokens, trailing] = words else {
+        return None;
+    };
+    // The library judges no trailing bytes yet.
+    if !bytes(trailing)?.is_empty() {
+        return None;
+    }
+    Some(settled(station::judge(&bytes(tokens)?)))
+}
+
+fn cells(words: &[&[u8]]) -> Option<String> {
+    let [stream, sheet] = words else { return None };
+    let (stream, sheet) = (bytes(stream)?, number(sheet)?);
+    Some(match station::cells(&stream, sheet) {
+        Ok(cells) => joined(cells),
+        Err(refusal) => refused(refusal),
+    })
+}
+
+/// The cells one after another, each as the program prints it, with its format and the place of its value field; `-` where there is none.
+fn joined(cells: impl Iterator<Item = Cell>) -> String {
+    let mut line = String::new();
+    for cell in cells {
+        let between = if line.is_empty() { "" } else { " ; " };
+        let (format, place) = (cell.format(), cell.field());
+        // Writing to a string never fails.
+        let _ = write!(line, "{between}{cell} format {format} place {place}");
+    }
+    if line.is_empty() {
+        line.push('-');
+    }
+    line
+}

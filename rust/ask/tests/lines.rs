@@ -1,0 +1,353 @@
+//! ask as another reader meets it: a process that is given lines and answers with lines. What it must answer is written down after document 01, stored
+//! with the cases, or taken from the second reader.
+
+use second_reader::{Refusal, Value};
+use std::fs;
+use std::io::{BufRead, BufReader, Write};
+use std::path::{Path, PathBuf};
+use std::process::{Child, Command, Output, Stdio};
+use std::sync::mpsc::{self, Receiver};
+use std::thread;
+use std::time::Duration;
+
+fn start() -> Child {
+    Command::new(env!("CARGO_BIN_EXE_ask"))
+        .stdin(Stdio::piped())
+        .stdout(Stdio::piped())
+        .stderr(Stdio::piped())
+        .spawn()
+        .expect("ask starts")
+}
+
+/// What ask gives for an input, as it is.
+fn run(input: &[u8]) -> Output {
+    let mut child = start();
+    let mut stdin = child.stdin.take().expect("a pipe");
+    thread::scope(|scope| {
+        scope.spawn(move || stdin.write_all(input).expect("all input is taken"));
+        child.wait_with_output().expect("ask ends")
+    })
+}
+
+/// The answers to questions, a line each.
+fn answers(questions: &[String]) -> Vec<String> {
+    let mut input = questions.join("\n");
+    input.push('\n');
+    let output = run(input.as_bytes());
+    assert_eq!(
+        (output.status.code(), &output.stderr[..]),
+        (Some(0), &b""[..])
+    );
+    let text = String::from_utf8(output.stdout).expect("answers in UTF-8");
+    let answers: Vec<_> = text.lines().map(str::to_string).collect();
+    assert_eq!(answers.len(), questions.len());
+    answers
+}
+
+fn hex(bytes: &[u8]) -> String {
+    match bytes {
+        [] => "-".to_string(),
+        _ => bytes
+            .iter()
+            .flat_map(|byte| [byte >> 4, byte & 15])
+            .map(|digit| char::from(b"0123456789abcdef"[usize::from(digit)]))
+            .collect(),
+    }
+}
+
+fn refused(refusal: Refusal) -> String {
+    format!("refused {} at {}", refusal.number, refusal.offset)
+}
+
+fn cases() -> Vec<PathBuf> {
+    let folder = Path::new(env!("CARGO_MANIFEST_DIR")).join("../../cases");
+    let mut inputs: Vec<_> = fs::read_dir(folder)
+        .expect("the folder of cases")
+        .map(|entry| entry.expect("an entry").path())
+        .filter(|path| path.extension().is_some_and(|extension| extension == "in"))
+        .collect();
+    inputs.sort();
+    assert!(inputs.len() >= 20, "only {} cases", inputs.len());
+    inputs
+}
+
+/// The examples that document 01 settles.
+const JUDGED: [(&str, &str); 10] = [
+    ("44000000C01E010003", "ok"),
+    ("03", "refused 14 at 0"),
+    ("1e01001E0100", "refused 14 at 6"),
+    ("1E01", "refused 13 at 0"),
+    ("41DD00", "ok"),
+    ("41CA00", "refused 15 at 0"),
+    ("41D800", "refused 15 at 0"),
+    ("2903001E0100", "ok"),
+    ("2904001E0100", "refused 13 at 0"),
+    ("-", "refused 13 at 0"),
+];
+
+#[test]
+fn the_settled_formulas() {
+    let questions = JUDGED.map(|(tokens, _)| format!("judge\t{tokens}\t-"));
+    assert_eq!(answers(&questions), JUDGED.map(|(_, answer)| answer));
+}
+
+#[test]
+fn made_formulas() {
+    let formulas: Vec<_> = (0..2_000).map(streams::formula).collect();
+    let questions: Vec<_> = formulas
+        .iter()
+        .map(|formula| format!("judge\t{}\t-", hex(formula)))
+        .collect();
+    for (formula, answer) in formulas.iter().zip(answers(&questions)) {
+        let wanted = second_reader::judge(formula).map_or_else(refused, |()| "ok".to_string());
+        assert_eq!(answer, wanted, "{formula:02X?}");
+    }
+}
+
+/// The stored cases: the check's answer, and each sheet's cells, after the program's lines.
+#[test]
+fn the_stored_cases() {
+    let mut questions = Vec::new();
+    let mut wanted = Vec::new();
+    for input in cases() {
+        let lines = fs::read_to_string(input.with_extension("out")).expect("its lines");
+        let stream = hex(&fs::read(&input).expect("a stream"));
+        if lines == "too long\n" {
+            continue;
+        }
+        let mut sheets = lines.split("\nsheet ");
+        let first = sheets.next().expect("a line").trim_end();
+        questions.push(format!("check\t{stream}"));
+        if first.starts_with("refused ") {
+            questions.push(format!("cells\t{stream}\t0"));
+            wanted.extend([first.to_string(), first.to_string()]);
+            continue;
+        }
+        wanted.push("ok".to_string());
+        let mut number = 0;
+        for sheet in sheets {
+            questions.push(format!("cells\t{stream}\t{number}"));
+            let cells: Vec<_> = sheet.lines().skip(1).collect();
+            wanted.push(match &cells[..] {
+                [] => "-".to_string(),
+                cells => cells.join(" ; "),
+            });
+            number += 1;
+        }
+        questions.push(format!("cells\t{stream}\t{number}"));
+        wanted.push("refused 11 at 0".to_string());
+    }
+    for (answer, wanted) in answers(&questions).iter().zip(&wanted) {
+        let bare: Vec<_> = answer
+            .split(" ; ")
+            .map(|cell| cell.split(" format ").next().expect("a cell"))
+            .collect();
+        assert_eq!(&bare.join(" ; "), wanted);
+    }
+}
+
+/// A cell as it must be answered. The second reader names no place for a blank: that is where its format stands.
+fn wanted_cell(cell: &second_reader::Cell, line: &str, stream: &[u8], answer: &str) -> String {
+    let place = match cell.value {
+        Value::Blank => {
+            let place = answer.rsplit(' ').next().and_then(|word| word.parse().ok());
+            let place: usize = place.expect("a place");
+            assert_eq!(stream[place..place + 2], cell.format.to_le_bytes());
+            place
+        }
+        _ => cell.value_field.start,
+    };
+    format!("{line} format {} place {place}", cell.format)
+}
+
+#[test]
+fn made_streams() {
+    let made: Vec<_> = (0..400).map(streams::stream).collect();
+    let mut questions = Vec::new();
+    for (seed, stream) in (0..).zip(&made) {
+        questions.push(format!("check\t{}", hex(stream)));
+        let sheet = streams::sheet(seed, stream);
+        questions.push(format!("cells\t{}\t{sheet}", hex(stream)));
+    }
+    let mut listed = 0;
+    let answers = answers(&questions);
+    for (seed, (stream, answers)) in (0..).zip(made.iter().zip(answers.chunks(2))) {
+        let passed = second_reader::check(stream).map_or_else(refused, |_| "ok".to_string());
+        assert_eq!(answers[0], passed, "check of seed {seed}");
+        let sheet = streams::sheet(seed, stream);
+        let mut cells = Vec::new();
+        let ended = second_reader::list_cells(stream, sheet as usize, |cell| {
+            cells.push(cell.clone());
+        });
+        match ended {
+            Err(refusal) => assert_eq!(answers[1], refused(refusal), "cells of seed {seed}"),
+            Ok(()) if cells.is_empty() => assert_eq!(answers[1], "-", "cells of seed {seed}"),
+            Ok(()) => {
+                let text = second_reader::lines(stream);
+                let lines = text.split("\nsheet ").nth(sheet as usize + 1);
+                let lines = lines.expect("the sheet").lines().skip(1);
+                let given: Vec<_> = answers[1].split(" ; ").collect();
+                assert_eq!(given.len(), cells.len(), "cells of seed {seed}");
+                for ((cell, line), answer) in cells.iter().zip(lines).zip(given) {
+                    assert_eq!(answer, wanted_cell(cell, line, stream, answer));
+                    listed += 1;
+                }
+            }
+        }
+    }
+    assert!(listed > 500, "only {listed} cells");
+}
+
+/// Each gets its answer, and the lines after it theirs.
+#[test]
+fn lines_that_are_no_question() {
+    let wrong = [
+        "",
+        "\t",
+        "nothing",
+        "Check\t-",
+        " check\t-",
+        "check",
+        "check -",
+        "check\t",
+        "check\t-\t",
+        "check\t-\t-",
+        "check\t0",
+        "check\tG0",
+        "check\t00 00",
+        "check\t-\r",
+        "judge\t1E0100",
+        "judge\t1E0100\t",
+        "judge\t1E0100\tG0",
+        "judge\t1E0100\t00",
+        "judge\t1E0100\t-\t-",
+        "cells\t-",
+        "cells\t-\t",
+        "cells\t-\t-1",
+        "cells\t-\t+1",
+        "cells\t-\t0x1",
+        "cells\t-\t4294967296",
+        "cells\t-\t0\t0",
+        "é\u{0}",
+    ];
+    let questions: Vec<_> = wrong
+        .iter()
+        .flat_map(|line| [line.to_string(), "check\t-".to_string()])
+        .collect();
+    for (line, answers) in wrong.iter().zip(answers(&questions).chunks(2)) {
+        assert_eq!(answers, ["wrong question", "refused 3 at 0"], "{line:?}");
+    }
+    let output = run(b"\xFF\xFE\ncheck\t\xC3\x28\ncheck\t-\n");
+    let wanted = "wrong question\nwrong question\nrefused 3 at 0\n";
+    assert_eq!(output.stdout, wanted.as_bytes());
+}
+
+#[test]
+fn where_the_input_ends() {
+    assert_eq!(run(b"").stdout, b"");
+    assert_eq!(run(b"\n").stdout, b"wrong question\n");
+    assert_eq!(run(b"check\t-").stdout, b"refused 3 at 0\n");
+    assert_eq!(
+        run(b"check\t-\ncheck").stdout,
+        b"refused 3 at 0\nwrong question\n"
+    );
+}
+
+/// The longest stream, and one that is a byte too long: globals alone, and zeros behind them.
+#[test]
+fn long_lines() {
+    let globals = "09081000000605000000000000000000000000000A000000";
+    let stream = |length: usize| globals.to_string() + &"00".repeat(length - globals.len() / 2);
+    let questions = [
+        format!("check\t{}", stream(16_777_216)),
+        format!("cells\t{}\t0", stream(16_777_217)),
+    ];
+    assert_eq!(answers(&questions), ["ok", "refused 1 at 0"]);
+}
+
+/// The lines that a process gives, as they come.
+fn lines_of(child: &mut Child) -> Receiver<String> {
+    let stdout = BufReader::new(child.stdout.take().expect("a pipe"));
+    let (send, lines) = mpsc::channel();
+    thread::spawn(move || {
+        for line in stdout.lines().map_while(Result::ok) {
+            let _ = send.send(line);
+        }
+    });
+    lines
+}
+
+/// An answer comes before the next question is asked, and also where the next has only begun.
+#[test]
+fn each_answer_comes_at_once() {
+    for begun in ["", "j", "judge\t"] {
+        let mut child = start();
+        let lines = lines_of(&mut child);
+        let mut stdin = child.stdin.take().expect("a pipe");
+        let mut ask = |text: &str| stdin.write_all(text.as_bytes()).expect("input is taken");
+        ask(begun);
+        for (tokens, answer) in JUDGED {
+            let question = format!("judge\t{tokens}\t-\n{begun}");
+            ask(&question[begun.len()..]);
+            let given = lines.recv_timeout(Duration::from_secs(20));
+            assert_eq!(given.as_deref(), Ok(answer), "{tokens}");
+        }
+        drop(stdin);
+        assert_eq!(child.wait().expect("ask ends").code(), Some(0));
+    }
+}
+
+/// Who has seen enough may close the pipe.
+#[test]
+fn a_closed_pipe() {
+    let mut child = start();
+    drop(child.stdout.take());
+    let mut stdin = child.stdin.take().expect("a pipe");
+    // Once ask has ended, the rest isn't taken.
+    while stdin.write_all(b"check\t-\n").is_ok() {}
+    let output = child.wait_with_output().expect("ask ends");
+    assert_eq!(
+        (output.status.code(), &output.stderr[..]),
+        (Some(141), &b""[..])
+    );
+}
+
+#[test]
+fn help_and_arguments() {
+    let run = |argument| {
+        let output = Command::new(env!("CARGO_BIN_EXE_ask"))
+            .arg(argument)
+            .output();
+        output.expect("ask runs")
+    };
+    let help = run("--help");
+    assert_eq!(help.status.code(), Some(0));
+    let help = String::from_utf8(help.stdout).expect("help in UTF-8");
+    for usage in ["check S ", "judge TOKENS TRAILING ", "cells S SHEET "] {
+        assert!(help.contains(usage), "{help}");
+    }
+    let wrong = run("session.bin");
+    assert_eq!(
+        (wrong.status.code(), &wrong.stdout[..]),
+        (Some(2), &b""[..])
+    );
+    assert!(!wrong.stderr.is_empty());
+}
+
+/// The example in the README.
+#[test]
+fn answers_what_the_readme_says() {
+    let readme = Path::new(env!("CARGO_MANIFEST_DIR")).join("../../README.md");
+    let readme = fs::read_to_string(readme).expect("the README");
+    let (_, example) = readme.split_once("    $ printf '").expect("the example");
+    let (lines, example) = example.split_once("' | ").expect("its end");
+    let wanted: String = example
+        .lines()
+        .skip(1)
+        .map_while(|line| line.strip_prefix("    "))
+        .map(|line| format!("{line}\n"))
+        .collect();
+    let input = lines.replace("\\t", "\t").replace("\\n", "\n");
+    assert_eq!(run(input.as_bytes()).stdout, wanted.as_bytes());
+    assert!(wanted.lines().count() >= 4);
+}
