@@ -34,6 +34,7 @@ extern "C" {
 #define STATION_LONGEST_STREAM 16777216 /* bytes */
 #define STATION_LONGEST_STRING 65535    /* units: a buffer of so many takes any string */
 #define STATION_CELL_WORDS 4            /* words: the room that one cell takes */
+#define STATION_STACK 65536             /* bytes: enough for any question */
 
 /* The refusals. Where nothing else is said the offset is that of the header of the record being read. */
 enum station_refusal {

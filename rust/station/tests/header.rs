@@ -92,6 +92,8 @@ fn constants() {
         station::LONGEST_STRING.try_into().unwrap()
     );
     assert_eq!(constant("CELL_WORDS"), 4);
+    // Held to by the test of the stack.
+    assert_eq!(constant("STACK"), 65_536);
 }
 
 /// A stream of the greatest length isn't refused for it.

@@ -1,0 +1,241 @@
+//! No question needs more than 64 KB of stack, whatever the stream: each C function runs on a thread whose stack was painted before, and what it
+//! touched is measured. The thread's own beginnings, about 5 KB, are counted with it.
+
+#[allow(dead_code)]
+#[path = "../src/raw.rs"]
+mod raw;
+
+// Links the archive.
+use station as _;
+
+use std::ffi::{c_int, c_void};
+use std::fs;
+use std::hint::black_box;
+use std::path::Path;
+use std::ptr;
+
+/// What `include/station.h` promises.
+const ENOUGH: usize = 65_536;
+/// The stack that the threads have: more than enough, so that a question that needs too much is told and not ended.
+const LENT: usize = 2 << 20;
+const PAINT: [u8; 4_096] = [0xA5; 4_096];
+
+/// Room for the system's `pthread_attr_t`, which is smaller.
+#[repr(C, align(16))]
+struct Attributes([u8; 256]);
+
+type Run = extern "C" fn(*mut c_void) -> *mut c_void;
+
+extern "C" {
+    fn pthread_attr_init(attributes: *mut Attributes) -> c_int;
+    fn pthread_attr_setstack(
+        attributes: *mut Attributes,
+        lowest: *mut c_void,
+        size: usize,
+    ) -> c_int;
+    fn pthread_create(
+        thread: *mut usize,
+        attributes: *const Attributes,
+        run: Run,
+        argument: *mut c_void,
+    ) -> c_int;
+    fn pthread_join(thread: usize, result: *mut *mut c_void) -> c_int;
+}
+
+/// What is lent to the questions, and the places that the check gave.
+struct Desk {
+    stream: Vec<u8>,
+    tokens: Vec<u8>,
+    units: Vec<u16>,
+    words: Vec<u64>,
+    check: raw::Check,
+    sheet: raw::Sheet,
+}
+
+type Question = fn(&mut Desk);
+
+struct Task<'d> {
+    question: Question,
+    desk: &'d mut Desk,
+}
+
+extern "C" fn run(task: *mut c_void) -> *mut c_void {
+    // SAFETY: `touched` hands over a task that is this thread's alone until it ends.
+    let task = unsafe { &mut *task.cast::<Task>() };
+    (task.question)(task.desk);
+    ptr::null_mut()
+}
+
+/// The bytes of stack that a question touches.
+fn touched(stack: &mut [u8], question: Question, desk: &mut Desk) -> usize {
+    stack.chunks_mut(PAINT.len()).for_each(|part| {
+        part.copy_from_slice(&PAINT[..part.len()]);
+    });
+    let mut task = Task { question, desk };
+    let mut attributes = Attributes([0; 256]);
+    let mut thread = 0;
+    // SAFETY: the stack is this thread's alone until it has ended, and so is the task.
+    unsafe {
+        assert_eq!(pthread_attr_init(&mut attributes), 0);
+        let lowest = stack.as_mut_ptr().cast();
+        assert_eq!(
+            pthread_attr_setstack(&mut attributes, lowest, stack.len()),
+            0
+        );
+        let argument = (&raw mut task).cast();
+        assert_eq!(pthread_create(&mut thread, &attributes, run, argument), 0);
+        assert_eq!(pthread_join(thread, ptr::null_mut()), 0);
+    }
+    let parts = stack.chunks(PAINT.len());
+    let whole = parts.take_while(|part| **part == PAINT[..part.len()]);
+    let painted: usize = whole.map(<[u8]>::len).sum();
+    let rest = &stack[painted..];
+    rest.len() - rest.iter().take_while(|&&byte| byte == PAINT[0]).count()
+}
+
+/// Each C function. They come in an order in which one has the places that it needs from those before it.
+const QUESTIONS: [(&str, Question); 9] = [
+    ("station_check", |desk| {
+        let Desk { stream, .. } = desk;
+        // SAFETY: here and below, the slices are valid for their lengths, and what is written is lent to the call alone.
+        desk.check = unsafe { raw::station_check(stream.as_ptr(), stream.len()) };
+    }),
+    ("station_judge", |desk| {
+        let Desk { tokens, .. } = desk;
+        black_box(unsafe { raw::station_judge(tokens.as_ptr(), tokens.len()) });
+    }),
+    ("station_fetch", |desk| {
+        let Desk { stream, units, .. } = desk;
+        let (buffer, room) = (units.as_mut_ptr(), units.len());
+        black_box(unsafe { raw::station_fetch(stream.as_ptr(), stream.len(), 0, buffer, room) });
+    }),
+    ("station_next_string", |desk| {
+        let Desk { stream, units, .. } = desk;
+        let (buffer, room) = (units.as_mut_ptr(), units.len());
+        let (segment, at, end) = (desk.check.segment, desk.check.at, desk.check.end);
+        let (bytes, length) = (stream.as_ptr(), stream.len());
+        black_box(unsafe {
+            raw::station_next_string(bytes, length, segment, at, end, buffer, room)
+        });
+    }),
+    ("station_next_sheet", |desk| {
+        let Desk { stream, check, .. } = desk;
+        let (bytes, length) = (stream.as_ptr(), stream.len());
+        desk.sheet = unsafe { raw::station_next_sheet(bytes, length, check.sheet) };
+    }),
+    ("station_rows", |desk| {
+        let Desk { stream, sheet, .. } = desk;
+        let (bytes, length) = (stream.as_ptr(), stream.len());
+        black_box(unsafe { raw::station_rows(bytes, length, sheet.at, sheet.part, sheet.level) });
+    }),
+    ("station_cells", |desk| {
+        let Desk { stream, .. } = desk;
+        black_box(unsafe { raw::station_cells(stream.as_ptr(), stream.len(), 0) });
+    }),
+    ("station_next_cells", |desk| {
+        let Desk { stream, words, .. } = desk;
+        let (lent, room) = (words.as_mut_ptr(), words.len());
+        let (bytes, length) = (stream.as_ptr(), stream.len());
+        let (at, part, level) = (desk.sheet.at, desk.sheet.part, desk.sheet.level);
+        black_box(unsafe { raw::station_next_cells(bytes, length, at, part, level, lent, room) });
+    }),
+    ("station_correct", |desk| {
+        let Desk { stream, .. } = desk;
+        let (bytes, length) = (stream.as_mut_ptr(), stream.len());
+        black_box(unsafe { raw::station_correct(bytes, length, 0, 0, 1, 0, 2.5, 0, 0) });
+    }),
+];
+
+/// The stored cases, sheets in order and in reverse among them, and made streams of each sort: of a million bytes, and of the greatest length the one
+/// with the most sheets, all in reverse.
+fn named_streams() -> Vec<(String, Vec<u8>)> {
+    let folder = Path::new(env!("CARGO_MANIFEST_DIR")).join("../../cases");
+    let mut named: Vec<_> = fs::read_dir(folder)
+        .expect("the folder of cases")
+        .map(|entry| entry.expect("an entry").path())
+        .filter(|path| path.extension().is_some_and(|extension| extension == "in"))
+        .map(|path| {
+            let name = path.file_name().expect("a name").display().to_string();
+            (name, fs::read(path).expect("a case"))
+        })
+        .collect();
+    assert!(named.iter().any(|(name, _)| name.ends_with("reversed.in")));
+    for kind in streams::Big::ALL {
+        named.push((format!("{kind:?}"), streams::big(kind, 1_000_000)));
+    }
+    let longest = streams::big(streams::Big::Reversed, 16_777_216);
+    named.push(("the longest, reversed".to_string(), longest));
+    named
+}
+
+/// A formula inside eight memory tokens.
+fn deepest_formula() -> Vec<u8> {
+    let mut tokens = vec![0x1E, 0x01, 0x00];
+    for _ in 0..8 {
+        let length = (tokens.len() as u16).to_le_bytes();
+        tokens.splice(0..0, [0x29, length[0], length[1]]);
+    }
+    assert_eq!(station::judge(&tokens), Ok(()));
+    tokens
+}
+
+fn desk(stream: Vec<u8>) -> Desk {
+    // SAFETY: an empty slice is valid; what it answers is nothing.
+    let (check, sheet) = unsafe {
+        let nothing: &[u8] = &[];
+        (
+            raw::station_check(nothing.as_ptr(), 0),
+            raw::station_next_sheet(nothing.as_ptr(), 0, 0),
+        )
+    };
+    Desk {
+        stream,
+        tokens: deepest_formula(),
+        units: vec![0; station::LONGEST_STRING],
+        words: vec![0; 512],
+        check,
+        sheet,
+    }
+}
+
+#[test]
+fn no_question_needs_more_than_the_header_says() {
+    let mut stack = vec![0; LENT];
+    let mut deepest = QUESTIONS.map(|(name, _)| (0, name, String::new()));
+    for (stream, bytes) in named_streams() {
+        let mut desk = desk(bytes);
+        for ((name, question), deepest) in QUESTIONS.iter().zip(&mut deepest) {
+            let needed = touched(&mut stack, *question, &mut desk);
+            assert!(
+                needed < LENT,
+                "{name} of {stream} needs more than {LENT} bytes"
+            );
+            if needed > deepest.0 {
+                *deepest = (needed, name, stream.clone());
+            }
+        }
+    }
+    for (needed, name, stream) in &deepest {
+        println!("{name}: {needed} bytes of stack, for {stream}");
+    }
+    for (needed, name, stream) in deepest {
+        assert!(needed > 0, "{name} wasn't asked");
+        assert!(
+            needed <= ENOUGH,
+            "{name} of {stream} needs {needed} bytes of stack"
+        );
+    }
+}
+
+/// The measure sees what a question touches.
+#[test]
+fn a_deep_question_is_found_out() {
+    let mut stack = vec![0; LENT];
+    let shallow = touched(&mut stack, |_| {}, &mut desk(Vec::new()));
+    let deep: Question = |_| {
+        black_box(&mut [0u8; 100_000]);
+    };
+    let deep = touched(&mut stack, deep, &mut desk(Vec::new()));
+    assert!(shallow < 8_192, "{shallow} bytes for nothing");
+    assert!((100_000..120_000).contains(&deep), "{deep} bytes");
+}
