@@ -28,8 +28,10 @@
 extern "C" {
 #endif
 
-/* the version of this header: major * 1,000,000 + minor * 1,000 + patch, here 0.1.0 */
+/* The version of this header, and of the library that is linked: major * 1,000,000 + minor * 1,000 + patch, here 0.1.0. Before
+ * version 1 each minor version may change the layout of an answer: where the two differ in more than the patch, don't ask on. */
 #define STATION_VERSION 1000
+uint32_t station_version(void);
 
 #define STATION_LONGEST_STREAM 16777216 /* bytes */
 #define STATION_LONGEST_STRING 65535    /* units: a buffer of so many takes any string */

@@ -564,3 +564,9 @@ pub fn correct(
     };
     settled(answer.number, answer.offset)
 }
+
+/// The version of the library: major · 1,000,000 + minor · 1,000 + patch.
+pub fn version() -> u32 {
+    // SAFETY: it takes nothing.
+    unsafe { raw::station_version() }
+}

@@ -86,6 +86,7 @@ fn constants() {
     let mut next = || -> u32 { version.next().unwrap().parse().unwrap() };
     let version = next() * 1_000_000 + next() * 1_000 + next();
     assert_eq!(constant("VERSION"), version);
+    assert_eq!(station::version(), version);
     assert_eq!(constant("LONGEST_STREAM"), 16_777_216);
     assert_eq!(
         constant("LONGEST_STRING"),

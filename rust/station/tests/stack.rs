@@ -94,7 +94,11 @@ fn touched(stack: &mut [u8], question: Question, desk: &mut Desk) -> usize {
 }
 
 /// Each C function. They come in an order in which one has the places that it needs from those before it.
-const QUESTIONS: [(&str, Question); 9] = [
+const QUESTIONS: [(&str, Question); 10] = [
+    ("station_version", |_| {
+        // SAFETY: it takes nothing.
+        black_box(unsafe { raw::station_version() });
+    }),
     ("station_check", |desk| {
         let Desk { stream, .. } = desk;
         // SAFETY: here and below, the slices are valid for their lengths, and what is written is lent to the call alone.
