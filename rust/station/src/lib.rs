@@ -35,7 +35,7 @@ mod raw;
 use std::fmt;
 use std::ops::Range;
 
-/// A refusal: its number in the table, and the offset at which it was given.
+/// A refusal: its number in the table, and the offset at which it was given. Shown, it says what it means: `refused 5 at 20: the workbook is encrypted`.
 #[derive(Clone, Copy, Debug, PartialEq, Eq)]
 pub struct Refusal {
     /// Its number in the table.
@@ -44,10 +44,53 @@ pub struct Refusal {
     pub offset: usize,
 }
 
+impl Refusal {
+    /// The bare line, for machines: `refused 5 at 20`.
+    pub fn line(&self) -> String {
+        format!("refused {} at {}", self.number, self.offset)
+    }
+
+    /// What its number means.
+    pub fn meaning(&self) -> &'static str {
+        let place = usize::from(self.number).checked_sub(1);
+        let known = place.and_then(|place| MEANINGS.get(place));
+        known.unwrap_or(&"a refusal that this version has no words for")
+    }
+}
+
 impl fmt::Display for Refusal {
     fn fmt(&self, f: &mut fmt::Formatter<'_>) -> fmt::Result {
-        write!(f, "refused {} at {}", self.number, self.offset)
+        write!(f, "{}: {}", self.line(), self.meaning())
     }
+}
+
+impl std::error::Error for Refusal {}
+
+/// What the refusals mean, from number 1 on.
+const MEANINGS: [&str; 18] = [
+    "the stream is longer than 16,777,216 bytes",
+    "a record's header or body passes the end of the stream, or its body is over 8,224 bytes",
+    "the stream is empty, or its first record is not the BOF of the globals",
+    "the rules of how substreams start, nest, follow each other and end are broken",
+    "the workbook is encrypted",
+    "a record has a wrong size or field",
+    "a CONTINUE record has no parent to continue",
+    "the shared string table is broken",
+    "a text cell's index is not below the number of shared strings",
+    "the sheet list and the substreams disagree",
+    "the sheet, string or cell asked for is absent",
+    "the buffer has fewer units than the string",
+    "the formula has an unknown, cut or misplaced token, or a bad length",
+    "the formula's stack runs short, or does not end with one operand",
+    "the formula has no such function, or uses it wrongly",
+    "two or more cells have the address",
+    "the cell's kind does not take this kind of value",
+    "the value does not fit the cell",
+];
+
+/// The number of each refusal, with its meaning.
+pub fn meanings() -> impl Iterator<Item = (u8, &'static str)> {
+    (1..).zip(MEANINGS)
 }
 
 /// The number 0 says that there is no refusal.

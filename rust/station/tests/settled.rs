@@ -22,6 +22,33 @@ fn formulas() {
     assert_eq!(judge(&[0x29, 0x04, 0x00, 0x1E, 0x01, 0x00]), refused(13, 0));
 }
 
+/// A refusal says what it means, as an error does; the bare line is for machines.
+#[test]
+fn words_of_refusals() {
+    let refusal = Refusal {
+        number: 5,
+        offset: 20,
+    };
+    assert_eq!(refusal.line(), "refused 5 at 20");
+    assert_eq!(
+        refusal.to_string(),
+        "refused 5 at 20: the workbook is encrypted"
+    );
+    let error: Box<dyn std::error::Error> = refusal.into();
+    assert_eq!(error.to_string(), refusal.to_string());
+    for (place, (number, meaning)) in station::meanings().enumerate() {
+        assert_eq!(usize::from(number), place + 1);
+        assert_eq!(Refusal { number, offset: 0 }.meaning(), meaning);
+    }
+    let count = station::meanings().count() as u8;
+    assert!(count >= 18);
+    for number in [0, count + 1, 255] {
+        let unknown = Refusal { number, offset: 7 };
+        assert_eq!(unknown.line(), format!("refused {number} at 7"));
+        assert!(unknown.meaning().contains("no words"));
+    }
+}
+
 #[test]
 fn globals_alone() {
     let mut stream = vec![0x09, 0x08, 0x10, 0x00, 0x00, 0x06, 0x05, 0x00];

@@ -5,7 +5,6 @@ use crate::input::{Stream, STANDARD};
 use crate::lines::count_cells;
 use crate::outcome::{complain, Failure, Output, Status};
 use crate::progress::Progress;
-use crate::refusals::meaning;
 use crate::text::Name;
 use station::Refusal;
 use std::ffi::OsStr;
@@ -72,7 +71,7 @@ fn say(
             Ok(Status::Answered)
         }
         Err(refusal) => {
-            writeln!(out, "{file}: {refusal}: {}", meaning(refusal.number))?;
+            writeln!(out, "{file}: {refusal}")?;
             out.flush()?;
             stream.hint();
             Ok(Status::Refused)

@@ -24,7 +24,7 @@ pub fn run(arguments: &Arguments, out: &mut Output) -> Result<Status, Failure> {
             write(&book, out)?;
             Ok(Status::Answered)
         }
-        Err(refusal) => stream.refuse(refusal, out),
+        Err(refusal) => Ok(stream.explain(refusal)),
     }
 }
 

@@ -2,7 +2,6 @@
 
 use crate::commands::{Command, COMMANDS};
 use crate::outcome::Output;
-use crate::refusals;
 use std::io::{self, Write};
 
 const HEAD: &str = "\
@@ -39,7 +38,7 @@ pub fn write_all(out: &mut Output) -> io::Result<()> {
         writeln!(out, "  {:<9}{}", command.name, command.about)?;
     }
     write!(out, "{TAIL}")?;
-    for (number, meaning) in refusals::all() {
+    for (number, meaning) in station::meanings() {
         writeln!(out, "  {number:>2}  {meaning}")?;
     }
     Ok(())

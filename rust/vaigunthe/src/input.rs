@@ -1,5 +1,6 @@
 //! Workbook streams from files and from standard input.
 
+use crate::hint;
 use crate::outcome::{complain, Failure, Status};
 use crate::text::Name;
 use station::Refusal;
@@ -12,9 +13,6 @@ pub const STANDARD: &str = "-";
 
 /// One byte more than a stream may have: enough for the library to refuse it, however long the file is.
 const ENOUGH: u64 = 16_777_216 + 1;
-
-/// What a compound file starts with.
-const COMPOUND: [u8; 8] = [0xD0, 0xCF, 0x11, 0xE0, 0xA1, 0xB1, 0x1A, 0xE1];
 
 /// The bytes of a stream, and the name they go by.
 pub struct Stream<'n> {
@@ -41,21 +39,32 @@ impl<'n> Stream<'n> {
         }
     }
 
-    /// Gives a refusal as the answer.
+    /// Gives a refusal as the answer: its bare line for machines, and what it means for people.
     pub fn refuse(&self, refusal: Refusal, out: &mut impl Write) -> Result<Status, Failure> {
-        writeln!(out, "{refusal}")?;
+        writeln!(out, "{}", refusal.line())?;
         out.flush()?;
-        self.hint();
-        Ok(Status::Refused)
+        Ok(self.explain(refusal))
     }
 
-    /// What a refusal can't say: that the stream has yet to be taken out of its file.
+    /// Says what a refusal means, on standard error alone: where data is asked for, standard output has nothing else.
+    pub fn explain(&self, refusal: Refusal) -> Status {
+        complain(format_args!("{}: {refusal}", self.called()));
+        self.hint();
+        Status::Refused
+    }
+
+    /// What a refusal can't say: what kind of file this is, and how to come from it to a stream.
     pub fn hint(&self) {
-        if self.bytes.starts_with(&COMPOUND) {
-            complain(format_args!(
-                "{}: this is a whole .xls file; the station reads the workbook stream inside it",
-                Name(self.name)
-            ));
+        if let Some(hint) = hint::of(&self.bytes) {
+            complain(format_args!("{}: {hint}", self.called()));
         }
+    }
+
+    /// What the stream is called in messages.
+    fn called(&self) -> Name<'n> {
+        Name(match self.name == STANDARD {
+            true => "standard input".as_ref(),
+            false => self.name,
+        })
     }
 }

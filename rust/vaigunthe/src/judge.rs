@@ -2,8 +2,10 @@
 
 use crate::arguments::Arguments;
 use crate::input::STANDARD;
-use crate::outcome::{Failure, Output, Status};
+use crate::outcome::{complain, Failure, Output, Status};
+use station::Refusal;
 use std::ffi::OsString;
+use std::fmt::Display;
 use std::io::{self, BufRead, BufReader, Read, Write};
 
 /// No line is read on without end. What is longer can only be spaces, or a formula far over the greatest length.
@@ -26,17 +28,17 @@ fn judge_words(words: &[OsString], out: &mut Output) -> Result<Status, Failure> 
         let message = || Failure::usage(format!("formula {} is {NOT_HEX}", done + 1));
         formulas.push(formula.ok_or_else(message)?);
     }
-    let mut status = Status::Answered;
-    for formula in formulas {
-        status = status.max(answer(&formula, out)?);
+    let mut judge = Judge::new(out);
+    for (done, formula) in formulas.iter().enumerate() {
+        judge.answer(formula, format_args!("formula {}", done + 1))?;
     }
-    Ok(status)
+    Ok(judge.status)
 }
 
 /// Answers line by line as they come, up to the first that is not hex.
 fn judge_lines(source: impl Read, out: &mut Output) -> Result<Status, Failure> {
     let mut source = BufReader::new(source);
-    let mut status = Status::Answered;
+    let mut judge = Judge::new(out);
     let mut line = Vec::new();
     for number in 1.. {
         line.clear();
@@ -52,13 +54,13 @@ fn judge_lines(source: impl Read, out: &mut Output) -> Result<Status, Failure> {
         let formula = formula_of(&line).map_err(|fault| {
             Failure::File(format!("line {number} of standard input is {fault}"))
         })?;
-        status = status.max(answer(&formula, out)?);
+        judge.answer(&formula, format_args!("line {number}"))?;
         // Whoever asks line by line waits for the answer before the next.
         if source.buffer().is_empty() {
-            out.flush()?;
+            judge.out.flush()?;
         }
     }
-    Ok(status)
+    Ok(judge.status)
 }
 
 fn formula_of(line: &[u8]) -> Result<Vec<u8>, &'static str> {
@@ -89,15 +91,40 @@ fn digit(character: u8) -> Option<u8> {
         .and_then(|digit| u8::try_from(digit).ok())
 }
 
-fn answer(formula: &[u8], out: &mut Output) -> io::Result<Status> {
-    match station::judge(formula) {
-        Ok(()) => {
-            writeln!(out, "accepted")?;
-            Ok(Status::Answered)
+/// Answers one formula after the other.
+struct Judge<'o> {
+    out: &'o mut Output,
+    status: Status,
+    /// The refusals whose meaning has been said: once is enough, however many formulas there are.
+    explained: Vec<u8>,
+}
+
+impl<'o> Judge<'o> {
+    fn new(out: &'o mut Output) -> Self {
+        Judge {
+            out,
+            status: Status::Answered,
+            explained: Vec::new(),
         }
-        Err(refusal) => {
-            writeln!(out, "{refusal}")?;
-            Ok(Status::Refused)
+    }
+
+    fn answer(&mut self, formula: &[u8], called: impl Display) -> io::Result<()> {
+        match station::judge(formula) {
+            Ok(()) => writeln!(self.out, "accepted"),
+            Err(refusal) => {
+                self.status = Status::Refused;
+                writeln!(self.out, "{}", refusal.line())?;
+                self.explain(refusal, called)
+            }
         }
+    }
+
+    fn explain(&mut self, refusal: Refusal, called: impl Display) -> io::Result<()> {
+        if !self.explained.contains(&refusal.number) {
+            self.explained.push(refusal.number);
+            self.out.flush()?;
+            complain(format_args!("{called}: {refusal}"));
+        }
+        Ok(())
     }
 }

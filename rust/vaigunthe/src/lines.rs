@@ -8,7 +8,7 @@ use station::{Cell, FormulaResult, SheetKind, Value, Workbook, LONGEST_STRING};
 use std::fmt::{self, Display, Formatter};
 use std::io::{self, Write};
 
-/// Checks the stream, and has its lines written where it passes.
+/// Checks the stream, and has what it holds written where it passes: data, so that standard output has nothing where it does not.
 fn answer(
     arguments: &Arguments,
     out: &mut Output,
@@ -20,12 +20,20 @@ fn answer(
             write(&workbook, out)?;
             Ok(Status::Answered)
         }
-        Err(refusal) => stream.refuse(refusal, out),
+        Err(refusal) => Ok(stream.explain(refusal)),
     }
 }
 
+/// A refusal is a line of the program's, so it stands where the others would.
 pub fn list(arguments: &Arguments, out: &mut Output) -> Result<Status, Failure> {
-    answer(arguments, out, write_list)
+    let stream = Stream::read(arguments.operand(0))?;
+    match station::check(&stream.bytes) {
+        Ok(workbook) => {
+            write_list(&workbook, out)?;
+            Ok(Status::Answered)
+        }
+        Err(refusal) => stream.refuse(refusal, out),
+    }
 }
 
 /// The lines of the program.

@@ -46,7 +46,10 @@ fn the_stored_cases_all_at_once() {
         b"",
     );
     assert_eq!(ran.status, Some(1));
-    assert_eq!(ran.err, "", "no progress where there is no terminal");
+    assert!(
+        !ran.err.contains("checking"),
+        "no progress but on a terminal"
+    );
     let lines: Vec<_> = ran.text().lines().collect();
     assert_eq!(lines.len(), inputs.len());
     for ((line, name), path) in lines.iter().zip(&names).zip(&inputs) {
@@ -128,21 +131,88 @@ fn a_file_far_too_long_is_not_read_to_its_end() {
     assert!(endless.text().starts_with("/dev/zero: refused 1 at 0: "));
 }
 
+/// The commands that read a stream, with what else they need.
+const READERS: [&[&str]; 8] = [
+    &["check", "-"],
+    &["list", "-"],
+    &["sheets", "-"],
+    &["strings", "-"],
+    &["fetch", "-", "0"],
+    &["export", "-", "--csv"],
+    &["export", "-", "--json"],
+    &[
+        "correct", "-", "0", "0", "0", "number", "1", "--output", "-",
+    ],
+];
+
+/// What the first bytes of other files are, and what is said of them.
 #[test]
-fn a_whole_file_is_told_apart() {
-    let mut stream = vec![0xD0, 0xCF, 0x11, 0xE0, 0xA1, 0xB1, 0x1A, 0xE1];
-    stream.resize(4_096, 0);
-    let refusal = second_reader::check(&stream).expect_err("no workbook stream");
-    for command in ["check", "list", "sheets", "strings"] {
-        let ran = run_with(&[command, "-"], &stream);
-        assert_eq!(ran.status, Some(1));
-        assert!(ran.text().contains(&refusal.to_string()), "{}", ran.text());
-        assert_eq!(ran.err.lines().count(), 1);
-        assert!(ran.err.contains(".xls file"), "{}", ran.err);
-        assert!(ran.err.contains("workbook stream"), "{}", ran.err);
-        let near = run_with(&[command, "-"], &stream[1..]);
-        assert_eq!((near.status, &near.err[..]), (Some(1), ""));
+fn files_of_other_formats_are_told_apart() {
+    let formats: [(&[u8], &[&str]); 6] = [
+        (
+            &[0xD0, 0xCF, 0x11, 0xE0, 0xA1, 0xB1, 0x1A, 0xE1],
+            &[
+                "whole .xls file",
+                "workbook stream",
+                "gsf cat FILE Workbook > ",
+                "7z e -so FILE Workbook > ",
+            ],
+        ),
+        (b"PK\x03\x04", &["zip file", ".xlsx", "Excel 97"]),
+        (&[0x09, 0x00, 0x04, 0x00], &["Excel 2;", "Excel 97"]),
+        (&[0x09, 0x02, 0x06, 0x00], &["Excel 3;", "Excel 97"]),
+        (&[0x09, 0x04, 0x06, 0x00], &["Excel 4;", "Excel 97"]),
+        (
+            &[0x09, 0x08, 0x08, 0x00, 0x00, 0x05, 0x05, 0x00],
+            &["Excel 5.0 or 95", "Excel 97"],
+        ),
+    ];
+    for (start, hints) in formats {
+        let mut stream = start.to_vec();
+        stream.resize(4_096, 0);
+        let refusal = second_reader::check(&stream).expect_err("no workbook stream");
+        for words in READERS {
+            let ran = run_with(words, &stream);
+            assert_eq!(ran.status, Some(1));
+            let said = format!("{}{}", ran.text(), ran.err);
+            assert!(said.contains(&refusal.to_string()), "{words:?}: {said}");
+            for hint in hints {
+                assert!(
+                    ran.err.contains(hint),
+                    "{words:?}: no '{hint}': {}",
+                    ran.err
+                );
+            }
+            let near = run_with(words, &stream[1..]);
+            assert!(!near.err.contains("this is"), "{words:?}: {}", near.err);
+        }
     }
+}
+
+/// Nothing that isn't data comes where data is asked for.
+#[test]
+fn a_refusal_is_no_data() {
+    let stream = fs::read(case("refused-5-encrypted.in")).expect("an input");
+    for words in READERS {
+        let ran = run_with(words, &stream);
+        let meaning = "refused 5 at 20: the workbook is encrypted\n";
+        let lines = match words {
+            ["check", ..] => format!("-: {meaning}"),
+            ["list", ..] | ["fetch", ..] => "refused 5 at 20\n".into(),
+            _ => String::new(),
+        };
+        assert_eq!((ran.status, ran.text()), (Some(1), &lines[..]), "{words:?}");
+        let message = match words {
+            ["check", ..] => String::new(),
+            ["correct", ..] => format!("refused 5 at 20\nvaigunthe: standard input: {meaning}"),
+            _ => format!("vaigunthe: standard input: {meaning}"),
+        };
+        assert_eq!(ran.err, message, "{words:?}");
+    }
+    let file = case("refused-5-encrypted.in");
+    let called = format!("vaigunthe: {}: refused 5 at 20: ", file.display());
+    let ran = run(words!["export", file, "--json"]);
+    assert!(ran.err.starts_with(&called), "{}", ran.err);
 }
 
 /// A name can't make a line of its own.

@@ -101,8 +101,10 @@ fn from_standard_input() {
     assert_eq!((ran.status, &ran.err[..]), (Some(0), "granted\n"));
     assert_eq!(ran.out, wanted);
     let ran = call("0 3 0 number 9", &to("-"));
-    assert_eq!((ran.status, &ran.err[..]), (Some(1), "refused 17 at 0\n"));
-    assert_eq!(ran.out, b"");
+    assert_eq!((ran.status, ran.text()), (Some(1), ""));
+    let (answer, meaning) = ran.err.split_once('\n').expect("two lines");
+    assert_eq!(answer, "refused 17 at 0");
+    assert!(meaning.starts_with("vaigunthe: standard input: refused 17 at 0: the cell's kind "));
     call("0 0 0 number 9", &in_place()).fails("--output is needed");
 }
 
@@ -122,18 +124,18 @@ fn from_a_file_to_standard_output() {
 #[test]
 fn refusals_touch_nothing() {
     let asked = [
-        ("1 0 0 number 1", "refused 11 at 0\n"),
-        ("0 0 1 number 1", "refused 11 at 0\n"),
-        ("0 65536 0 number 1", "refused 11 at 0\n"),
-        ("0 4 0 number 1", "refused 16 at 0\n"),
-        ("0 0 0 text 1", "refused 17 at 0\n"),
-        ("0 3 0 number 1", "refused 17 at 0\n"),
-        ("0 1 0 text 2", "refused 18 at 0\n"),
-        ("0 2 0 truth 2", "refused 18 at 0\n"),
-        ("0 2 0 error 01", "refused 18 at 0\n"),
-        ("0 0 0 number bits:7FF8000000000000", "refused 18 at 0\n"),
-        ("0 0 0 number bits:fff0000000000000", "refused 18 at 0\n"),
-        ("0 0 0 number 1e999", "refused 18 at 0\n"),
+        ("1 0 0 number 1", "refused 11 at 0"),
+        ("0 0 1 number 1", "refused 11 at 0"),
+        ("0 65536 0 number 1", "refused 11 at 0"),
+        ("0 4 0 number 1", "refused 16 at 0"),
+        ("0 0 0 text 1", "refused 17 at 0"),
+        ("0 3 0 number 1", "refused 17 at 0"),
+        ("0 1 0 text 2", "refused 18 at 0"),
+        ("0 2 0 truth 2", "refused 18 at 0"),
+        ("0 2 0 error 01", "refused 18 at 0"),
+        ("0 0 0 number bits:7FF8000000000000", "refused 18 at 0"),
+        ("0 0 0 number bits:fff0000000000000", "refused 18 at 0"),
+        ("0 0 0 number 1e999", "refused 18 at 0"),
     ];
     let folder = Folder::new();
     let file = folder.put("in", &sample());
@@ -141,7 +143,7 @@ fn refusals_touch_nothing() {
     let before = (state(&file), state(&old));
     for (question, refusal) in asked {
         for target in [in_place(), to(folder.at("new")), to(&old)] {
-            correct(&file, question, &target).says(1, refusal);
+            correct(&file, question, &target).refuses(refusal);
             assert_eq!((state(&file), state(&old)), before, "{question}");
             assert_eq!(folder.names(), ["in", "old"], "{question}");
         }
@@ -153,7 +155,7 @@ fn a_stream_that_does_not_pass() {
     let folder = Folder::new();
     let stream = fs::read(case("refused-6-word.in")).expect("an input");
     let file = folder.put("in", &stream);
-    correct(&file, "0 0 0 number 1", &in_place()).says(1, "refused 6 at 62\n");
+    correct(&file, "0 0 0 number 1", &in_place()).refuses("refused 6 at 62");
     assert_holds(&file, &stream);
     let mut whole = vec![0xD0, 0xCF, 0x11, 0xE0, 0xA1, 0xB1, 0x1A, 0xE1];
     whole.resize(512, 0);
@@ -299,7 +301,7 @@ fn made_corrections() {
         let ran = correct(&file, &question, &in_place());
         match answer {
             Ok(()) => ran.says(0, "granted\n"),
-            Err(refusal) => ran.says(1, &format!("{refusal}\n")),
+            Err(refusal) => ran.refuses(&refusal.to_string()),
         }
         granted += u32::from(answer.is_ok());
         assert_holds(&file, &wanted);

@@ -3,20 +3,17 @@
 use crate::made::one;
 use crate::tool::{case, run, run_with};
 use crate::words;
+use second_reader::Refusal;
 
 /// The line for a string in a buffer of so many units.
-fn expected(stream: &[u8], index: u32, room: usize) -> (i32, String) {
+fn expected(stream: &[u8], index: u32, room: usize) -> Result<String, Refusal> {
     let mut buffer = vec![0; room];
-    match second_reader::fetch(stream, index, &mut buffer) {
-        Ok(count) => {
-            let units: String = buffer[..count]
-                .iter()
-                .map(|unit| format!(" {unit:04X}"))
-                .collect();
-            (0, format!("units {count}{units}\n"))
-        }
-        Err(refusal) => (1, format!("{refusal}\n")),
-    }
+    let count = second_reader::fetch(stream, index, &mut buffer)?;
+    let units: String = buffer[..count]
+        .iter()
+        .map(|unit| format!(" {unit:04X}"))
+        .collect();
+    Ok(format!("units {count}{units}\n"))
 }
 
 #[test]
@@ -27,13 +24,13 @@ fn units_of_a_string() {
     run(words!["fetch", file, "0", "--room", "5"]).says(0, units);
     run(words!["fetch", "--room=6", file, "0"]).says(0, units);
     run(words!["fetch", file, "0", "--room", "4294967295"]).says(0, units);
-    run(words!["fetch", file, "0", "--room", "4"]).says(1, "refused 12 at 0\n");
-    run(words!["fetch", file, "2"]).says(1, "refused 11 at 0\n");
-    run(words!["fetch", file, "2", "--room", "0"]).says(1, "refused 11 at 0\n");
-    run(words!["fetch", file, "4294967295"]).says(1, "refused 11 at 0\n");
+    run(words!["fetch", file, "0", "--room", "4"]).refuses("refused 12 at 0");
+    run(words!["fetch", file, "2"]).refuses("refused 11 at 0");
+    run(words!["fetch", file, "2", "--room", "0"]).refuses("refused 11 at 0");
+    run(words!["fetch", file, "4294967295"]).refuses("refused 11 at 0");
     run(words!["fetch", case("cells.in"), "2"]).says(0, "units 0\n");
     run(words!["fetch", case("cells.in"), "2", "--room", "0"]).says(0, "units 0\n");
-    run(words!["fetch", case("refused-7-orphan.in"), "0"]).says(1, "refused 7 at 20\n");
+    run(words!["fetch", case("refused-7-orphan.in"), "0"]).refuses("refused 7 at 20");
 }
 
 /// The example of document 01: a string over a continuation.
@@ -67,7 +64,7 @@ fn the_longest_string() {
     stream.extend([0x0A, 0x00, 0x00, 0x00]);
     let units = format!("units 65535{}\n", " 0078".repeat(65_535));
     run_with(&["fetch", "-", "0"], &stream).says(0, &units);
-    run_with(&["fetch", "-", "0", "--room", "65534"], &stream).says(1, "refused 12 at 0\n");
+    run_with(&["fetch", "-", "0", "--room", "65534"], &stream).refuses("refused 12 at 0");
 }
 
 #[test]
@@ -76,8 +73,11 @@ fn made_streams() {
         let stream = streams::stream(seed);
         let question = streams::fetch(seed, &stream);
         let (index, room) = (question.index.to_string(), question.units.to_string());
-        let (status, line) = expected(&stream, question.index, question.units);
-        run_with(&["fetch", "-", &index, "--room", &room], &stream).says(status, &line);
+        let ran = run_with(&["fetch", "-", &index, "--room", &room], &stream);
+        match expected(&stream, question.index, question.units) {
+            Ok(line) => ran.says(0, &line),
+            Err(refusal) => ran.refuses(&refusal.to_string()),
+        }
     }
 }
 

@@ -1,6 +1,6 @@
 //! judge.
 
-use crate::tool::{run, run_with, TOOL};
+use crate::tool::{run, run_with, Ran, TOOL};
 use std::io::{BufRead, BufReader, Write};
 use std::process::{Command, Stdio};
 use std::sync::mpsc;
@@ -25,6 +25,25 @@ fn hex(bytes: &[u8]) -> String {
     bytes.iter().map(|byte| format!("{byte:02X}")).collect()
 }
 
+/// Holds that it answered so, and said what each refusal means where it first came.
+fn answers_all(ran: &Ran, called: &str, answers: &str) {
+    assert_eq!((ran.status, ran.text()), (Some(1), answers));
+    let mut seen = Vec::new();
+    let mut messages = ran.err.lines();
+    for (number, answer) in (1..).zip(answers.lines()) {
+        let Some((refusal, _)) = answer.split_once(" at ") else {
+            continue;
+        };
+        if !seen.contains(&refusal) {
+            seen.push(refusal);
+            let message = messages.next().expect("a message");
+            let start = format!("vaigunthe: {called} {number}: {answer}: the formula");
+            assert!(message.starts_with(&start), "{message}");
+        }
+    }
+    assert_eq!(messages.next(), None);
+}
+
 #[test]
 fn the_settled_examples() {
     let mut words = vec!["judge"];
@@ -33,15 +52,21 @@ fn the_settled_examples() {
         .iter()
         .map(|(_, answer)| format!("{answer}\n"))
         .collect();
-    run(&words).says(1, &answers);
+    answers_all(&run(&words), "formula", &answers);
     let lines: String = SETTLED
         .iter()
         .map(|(formula, _)| format!("{formula}\n"))
         .collect();
-    run_with(&["judge", "-"], lines.as_bytes()).says(1, &answers);
+    answers_all(
+        &run_with(&["judge", "-"], lines.as_bytes()),
+        "line",
+        &answers,
+    );
     for (formula, answer) in SETTLED {
-        let status = i32::from(answer != "accepted");
-        run(&["judge", formula]).says(status, &format!("{answer}\n"));
+        match answer {
+            "accepted" => run(&["judge", formula]).says(0, "accepted\n"),
+            refusal => run(&["judge", formula]).refuses(refusal),
+        }
     }
 }
 
@@ -57,7 +82,11 @@ fn made_formulas() {
             Err(refusal) => format!("{refusal}\n"),
         };
     }
-    run_with(&["judge", "-"], lines.as_bytes()).says(1, &answers);
+    answers_all(
+        &run_with(&["judge", "-"], lines.as_bytes()),
+        "line",
+        &answers,
+    );
 }
 
 #[test]
@@ -66,13 +95,14 @@ fn ways_to_write_hex() {
     let lines = b"1E 01 00\r\n  1e0100\n1E01 00";
     run_with(&["judge", "-"], lines).says(0, &"accepted\n".repeat(3));
     run_with(&["judge", "-"], b"").says(0, "");
-    run_with(&["judge", "-"], b"\n\n").says(1, &"refused 13 at 0\n".repeat(2));
+    let ran = run_with(&["judge", "-"], b"\n\n");
+    answers_all(&ran, "line", &"refused 13 at 0\n".repeat(2));
 }
 
 #[test]
 fn a_formula_far_too_long() {
     let line = "1E0100".repeat(100_000);
-    run_with(&["judge", "-"], line.as_bytes()).says(1, "refused 13 at 0\n");
+    run_with(&["judge", "-"], line.as_bytes()).refuses("refused 13 at 0");
 }
 
 /// All words are there before the first is answered, so none is.
@@ -91,7 +121,11 @@ fn a_line_that_is_no_hex() {
     assert_eq!(ran.status, Some(2));
     assert_eq!(ran.text(), "accepted\nrefused 14 at 0\n");
     assert!(ran.err.contains("line 3 "), "{}", ran.err);
-    assert_eq!(ran.err.lines().count(), 1);
+    assert_eq!(
+        ran.err.lines().count(),
+        2,
+        "the refusal of line 2, and line 3"
+    );
     let ran = run_with(&["judge", "-"], b"\xFF\xFE\n");
     assert_eq!((ran.status, ran.text()), (Some(2), ""));
     assert!(ran.err.contains("line 1 "), "{}", ran.err);
@@ -103,6 +137,7 @@ fn each_line_is_answered_before_the_next_is_asked() {
         .args(["judge", "-"])
         .stdin(Stdio::piped())
         .stdout(Stdio::piped())
+        .stderr(Stdio::null())
         .spawn()
         .expect("the tool starts");
     let mut stdin = child.stdin.take().expect("a pipe");

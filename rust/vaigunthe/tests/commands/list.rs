@@ -1,8 +1,15 @@
 //! list: the lines of the program.
 
-use crate::tool::{case, case_inputs, run, run_with, Folder};
+use crate::tool::{case, case_inputs, run, run_with, Folder, Ran};
 use crate::words;
 use std::fs;
+
+fn answers(ran: &Ran, lines: &str) {
+    match lines.starts_with("refused ") {
+        true => ran.refuses(lines.trim_end()),
+        false => ran.says(0, lines),
+    }
+}
 
 #[test]
 fn the_stored_cases() {
@@ -12,9 +19,9 @@ fn the_stored_cases() {
         if stored == "too long\n" {
             continue;
         }
-        let status = i32::from(stored.starts_with("refused "));
-        run(words!["list", input]).says(status, &stored);
-        run_with(&["list", "-"], &fs::read(&input).expect("an input")).says(status, &stored);
+        answers(&run(words!["list", input]), &stored);
+        let stream = fs::read(&input).expect("an input");
+        answers(&run_with(&["list", "-"], &stream), &stored);
         listed += 1;
     }
     assert!(listed >= 20, "only {listed} cases listed");
@@ -24,8 +31,8 @@ fn the_stored_cases() {
 fn made_streams() {
     for seed in 0..200 {
         let stream = streams::stream(seed);
-        let status = i32::from(second_reader::check(&stream).is_err());
-        run_with(&["list", "-"], &stream).says(status, &second_reader::lines(&stream));
+        let lines = second_reader::lines(&stream);
+        answers(&run_with(&["list", "-"], &stream), &lines);
     }
 }
 
@@ -41,14 +48,15 @@ fn streams_over_65536_bytes() {
     }
     let mut cut = streams::big(streams::Big::Numbers, 300_000);
     cut.truncate(200_000);
-    run_with(&["list", "-"], &cut).says(1, &second_reader::lines(&cut));
+    let refusal = second_reader::check(&cut).expect_err("a cut stream");
+    run_with(&["list", "-"], &cut).refuses(&refusal.to_string());
 }
 
 #[test]
 fn a_stream_over_the_greatest_length() {
     let folder = Folder::new();
     let path = folder.put("long", &vec![0; 16_777_217]);
-    run(words!["list", path]).says(1, "refused 1 at 0\n");
+    run(words!["list", path]).refuses("refused 1 at 0");
 }
 
 #[test]

@@ -35,7 +35,7 @@ fn a_file_that_is_too_long_stays_whole() {
     let file = folder.put("long", &sample());
     let open = OpenOptions::new().write(true).open(&file).expect("a file");
     open.set_len(16_777_216 + 4_096).expect("a hole");
-    correct(&file, "0 0 0 number 1", &in_place()).says(1, "refused 1 at 0\n");
+    correct(&file, "0 0 0 number 1", &in_place()).refuses("refused 1 at 0");
     assert_eq!(open.metadata().expect("a file").len(), 16_777_216 + 4_096);
     assert_eq!(state(&file).1, open.metadata().expect("a file").ino());
 }

@@ -31,6 +31,26 @@ impl Ran {
         );
     }
 
+    /// Holds that it answered with this refusal, and said what it means.
+    pub fn refuses(&self, line: &str) {
+        assert_eq!(self.text(), format!("{line}\n"));
+        self.explains(line);
+    }
+
+    /// Holds that it refused so, with no data on standard output.
+    pub fn refuses_data(&self, line: &str) {
+        assert_eq!(self.text(), "");
+        self.explains(line);
+    }
+
+    fn explains(&self, line: &str) {
+        assert_eq!(self.status, Some(1), "{}", self.err);
+        assert!(self.err.starts_with("vaigunthe: "), "{}", self.err);
+        let first = self.err.lines().next().expect("a message");
+        let (_, meaning) = first.split_once(&format!(": {line}: ")).expect("the line");
+        assert!(meaning.contains(told_by(line)), "{first}");
+    }
+
     /// Holds that it only complained, of this.
     pub fn fails(&self, with: &str) {
         assert_eq!((self.status, self.text()), (Some(2), ""), "{}", self.err);
@@ -141,13 +161,20 @@ macro_rules! words {
     };
 }
 
+/// Words for the refusal of a line.
+fn told_by(line: &str) -> &'static str {
+    let number = line.strip_prefix("refused ").expect("a refusal");
+    let (number, _) = number.split_once(" at ").expect("an offset");
+    TOLD_BY[number.parse::<usize>().expect("a number") - 1]
+}
+
 /// Words of document 01's table of refusals, for each of them in order.
 pub const TOLD_BY: [&str; 18] = [
     "longer than 16,777,216 bytes",
     "8,224 bytes",
     "first record",
     "substreams",
-    "FILEPASS",
+    "encrypted",
     "wrong size or field",
     "CONTINUE",
     "shared string table",

@@ -18,7 +18,8 @@ fn tour(readme: &str) -> Vec<(&str, Vec<&str>)> {
         match (line.strip_prefix(PROMPT), steps.last_mut()) {
             (Some(words), _) => steps.push((words, Vec::new())),
             (None, Some((_, lines))) => lines.push(line),
-            (None, None) => panic!("a line before the first command: {line}"),
+            // How the stream is taken out of its file.
+            (None, None) => assert!(line.contains("session.xls Workbook > session.bin")),
         }
     }
     steps
@@ -41,7 +42,8 @@ fn prints_what_the_readme_says() {
             command.args(words.split(' ')).current_dir(folder.path()),
             b"",
         );
-        let lines: Vec<_> = ran.text().lines().collect();
+        // What is said on standard error stands after what is answered.
+        let lines: Vec<_> = ran.text().lines().chain(ran.err.lines()).collect();
         match wanted.split_last() {
             Some((&REST, wanted)) => assert!(
                 lines.starts_with(wanted) && lines.len() > wanted.len(),
