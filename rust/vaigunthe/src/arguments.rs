@@ -1,25 +1,57 @@
-//! The words after a command's name, read by the form that the command gives.
+//! The words after a command's name, read as the command's entry in the table says.
 
+use crate::commands::Command;
+use crate::nearest::nearest;
 use crate::outcome::Failure;
-use crate::text::Name;
+use crate::text::Word;
 use std::ffi::{OsStr, OsString};
 use std::os::unix::ffi::OsStrExt;
 
-/// What a command takes.
-pub struct Form {
-    /// The names of its operands, in order.
-    pub operands: &'static [&'static str],
-    /// Whether the last operand may come more than once.
-    pub repeats: bool,
-    /// Options that stand alone.
-    pub flags: &'static [&'static str],
-    /// Options with a value.
-    pub valued: &'static [&'static str],
+/// The operands that a command takes.
+pub enum Operands {
+    /// Each of these, once.
+    Each(&'static [&'static str]),
+    /// One or more of this.
+    Several(&'static str),
+    /// These, and what the command itself reads after them.
+    AtLeast(&'static [&'static str]),
 }
 
-/// The operands and options of one call, as many as the form wants.
+impl Operands {
+    fn names(&self) -> &[&'static str] {
+        match self {
+            Operands::Each(names) | Operands::AtLeast(names) => names,
+            Operands::Several(name) => std::slice::from_ref(name),
+        }
+    }
+}
+
+/// An option that a command takes.
+pub struct Setting {
+    pub name: &'static str,
+    /// What its value is called; empty for an option that stands alone.
+    pub value: &'static str,
+    pub about: &'static str,
+}
+
+impl Setting {
+    /// An option that stands alone.
+    pub const fn alone(name: &'static str, about: &'static str) -> Self {
+        Setting::with(name, "", about)
+    }
+
+    /// An option with a value.
+    pub const fn with(name: &'static str, value: &'static str, about: &'static str) -> Self {
+        Setting { name, value, about }
+    }
+}
+
+/// Words that ask for help instead of an answer.
+pub const HELP: [&str; 2] = ["--help", "-h"];
+
+/// The operands and options of one call, as many as the command takes.
 pub struct Arguments {
-    form: &'static Form,
+    command: &'static Command,
     operands: Vec<OsString>,
     options: Vec<(&'static str, OsString)>,
 }
@@ -31,9 +63,9 @@ pub enum Asked {
 }
 
 impl Asked {
-    pub fn read(form: &'static Form, words: &[OsString]) -> Result<Self, Failure> {
+    pub fn read(command: &'static Command, words: &[OsString]) -> Result<Self, Failure> {
         let mut given = Arguments {
-            form,
+            command,
             operands: Vec::new(),
             options: Vec::new(),
         };
@@ -43,7 +75,7 @@ impl Asked {
                 given.operands.extend(words.by_ref().cloned());
             } else if !is_option(word) {
                 given.operands.push(word.clone());
-            } else if word == "--help" {
+            } else if HELP.iter().any(|help| word == help) {
                 return Ok(Asked::Help);
             } else {
                 given.take_option(word, &mut words)?;
@@ -75,18 +107,26 @@ fn split(word: &OsStr) -> (&OsStr, Option<&OsStr>) {
 }
 
 /// A whole number, in digits and nothing else.
-fn whole(what: &str, word: &OsStr) -> Result<u32, Failure> {
+pub fn whole(what: &str, word: &OsStr) -> Result<u32, Failure> {
     let digits = word
         .to_str()
         .filter(|text| text.bytes().all(|byte| byte.is_ascii_digit()));
     digits
         .and_then(|digits| digits.parse().ok())
         .ok_or_else(|| {
-            let (most, word) = (u32::MAX, Name(word));
+            let (most, word) = (u32::MAX, Word(word));
             Failure::usage(format!(
                 "{what} is a whole number from 0 to {most}, not '{word}'"
             ))
         })
+}
+
+pub fn missing(name: &str) -> Failure {
+    Failure::usage(format!("{name} is missing"))
+}
+
+pub fn too_many(word: &OsStr) -> Failure {
+    Failure::usage(format!("'{}' is one too many", Word(word)))
 }
 
 impl Arguments {
@@ -97,21 +137,18 @@ impl Arguments {
         words: &mut impl Iterator<Item = &'w OsString>,
     ) -> Result<(), Failure> {
         let (name, joined) = split(word);
-        let known = |names: &[&'static str]| names.iter().copied().find(|known| name == *known);
-        let (name, value) = match (known(self.form.flags), known(self.form.valued), joined) {
-            (Some(flag), _, None) => (flag, OsString::new()),
-            (Some(flag), _, Some(_)) => {
-                return Err(Failure::usage(format!("{flag} takes no value")));
-            }
-            (None, Some(name), Some(value)) => (name, value.to_os_string()),
-            (None, Some(name), None) => match words.next() {
-                Some(value) => (name, value.clone()),
+        let Some(setting) = self.command.options.iter().find(|known| name == known.name) else {
+            return Err(self.unknown(name));
+        };
+        let name = setting.name;
+        let value = match (setting.value, joined) {
+            ("", None) => OsString::new(),
+            ("", Some(_)) => return Err(Failure::usage(format!("{name} takes no value"))),
+            (_, Some(value)) => value.to_os_string(),
+            (_, None) => match words.next() {
+                Some(value) => value.clone(),
                 None => return Err(Failure::usage(format!("{name} needs a value"))),
             },
-            (None, None, _) => {
-                let name = Name(name);
-                return Err(Failure::usage(format!("unknown option '{name}'")));
-            }
         };
         if self.has(name) {
             return Err(Failure::usage(format!("{name} is given twice")));
@@ -120,16 +157,22 @@ impl Arguments {
         Ok(())
     }
 
+    fn unknown(&self, name: &OsStr) -> Failure {
+        let known = self.command.options.iter().map(|known| known.name);
+        let meant = match nearest(name, known) {
+            Some(near) => format!("; did you mean {near}?"),
+            None => String::new(),
+        };
+        Failure::usage(format!("unknown option '{}'{meant}", Word(name)))
+    }
+
     fn count_operands(&self) -> Result<(), Failure> {
-        let wanted = self.form.operands;
-        if let Some(missing) = wanted.get(self.operands.len()) {
-            return Err(Failure::usage(format!("{missing} is missing")));
+        let wanted = self.command.operands.names();
+        if let Some(name) = wanted.get(self.operands.len()) {
+            return Err(missing(name));
         }
-        match self.operands.get(wanted.len()) {
-            Some(extra) if !self.form.repeats => {
-                let extra = Name(extra);
-                Err(Failure::usage(format!("'{extra}' is one too many")))
-            }
+        match (&self.command.operands, self.operands.get(wanted.len())) {
+            (Operands::Each(_), Some(extra)) => Err(too_many(extra)),
             _ => Ok(()),
         }
     }
@@ -143,7 +186,7 @@ impl Arguments {
     }
 
     pub fn number(&self, place: usize) -> Result<u32, Failure> {
-        whole(self.form.operands[place], self.operand(place))
+        whole(self.command.operands.names()[place], self.operand(place))
     }
 
     /// The value of an option, empty for one that stands alone; none where it wasn't given.

@@ -1,6 +1,7 @@
 //! check: a line for each file.
 
-use crate::arguments::Arguments;
+use crate::arguments::{Arguments, Operands};
+use crate::commands::Command;
 use crate::input::{Stream, STANDARD};
 use crate::lines::count_cells;
 use crate::outcome::{complain, Failure, Output, Status};
@@ -9,6 +10,30 @@ use crate::text::Name;
 use station::Refusal;
 use std::ffi::OsStr;
 use std::io::Write;
+
+pub const CHECK: Command = Command {
+    name: "check",
+    about: "say of each file whether it passes, and what it holds",
+    usage: &["FILE..."],
+    operands: Operands::Several("FILE"),
+    words: &[],
+    options: &[],
+    examples: &[
+        ("vaigunthe check session.bin", "one file"),
+        (
+            "vaigunthe check sessions/*.bin | grep -v ': passed'",
+            "all that don't pass, and why",
+        ),
+    ],
+    details: "\
+A line for each file, in the order given:
+  FILE: passed, S sheets, U strings, C cells
+  FILE: refused N at O: what that means
+The status is 1 where one is refused, and 2 where one can't be read; the others
+are answered all the same. On a terminal a line shows how far it has come.
+",
+    run,
+};
 
 /// What a stream holds that passes.
 struct Holding {
@@ -26,7 +51,7 @@ fn holding(stream: &[u8]) -> Result<Holding, Refusal> {
     })
 }
 
-pub fn run(arguments: &Arguments, out: &mut Output) -> Result<Status, Failure> {
+fn run(arguments: &Arguments, out: &mut Output) -> Result<Status, Failure> {
     let files = arguments.operands();
     if files.iter().filter(|file| *file == STANDARD).count() > 1 {
         return Err(Failure::usage("standard input can be read only once"));

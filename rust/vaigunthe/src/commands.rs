@@ -1,137 +1,71 @@
-//! The commands: what each takes, says of itself and runs.
+//! The table of commands. A command is one entry: what it takes, what it says of itself, and what it runs. Help, the manual page, completions and the
+//! reading of arguments all go by the entry.
 
-use crate::arguments::{Arguments, Asked, Form};
+use crate::arguments::{Arguments, Asked, Operands, Setting, HELP};
+use crate::nearest::nearest;
 use crate::outcome::{Failure, Output, Status};
-use crate::text::Name;
-use crate::{check, correct, export, help, judge, lines};
-use std::ffi::OsString;
+use crate::page::{Page, Part};
+use crate::text::Word;
+use crate::{check, completions, correct, export, help, judge, lines, manual};
+use std::ffi::{OsStr, OsString};
 use std::io::Write;
 
 pub struct Command {
     pub name: &'static str,
-    /// What comes after the name.
-    pub usage: &'static str,
     /// What it does, in a few words.
     pub about: &'static str,
+    /// What comes after the name, a line for each way to write it.
+    pub usage: &'static [&'static str],
+    pub operands: Operands,
+    /// Words that may stand among the operands, for completions.
+    pub words: &'static [&'static str],
+    pub options: &'static [Setting],
+    /// Calls, with what each is for.
+    pub examples: &'static [(&'static str, &'static str)],
     /// The rest of its help.
     pub details: &'static str,
-    form: Form,
-    run: fn(&Arguments, &mut Output) -> Result<Status, Failure>,
+    pub run: fn(&Arguments, &mut Output) -> Result<Status, Failure>,
 }
 
-/// What most commands take.
-const ONE_FILE: Form = Form {
-    operands: &["FILE"],
-    repeats: false,
-    flags: &[],
-    valued: &[],
-};
-
-pub static COMMANDS: [Command; 8] = [
-    Command {
-        name: "check",
-        usage: "FILE...",
-        about: "say of each file whether it passes, and what it holds",
-        details: help::CHECK,
-        form: Form {
-            repeats: true,
-            ..ONE_FILE
-        },
-        run: check::run,
-    },
-    Command {
-        name: "list",
-        usage: "FILE",
-        about: "list all sheets and cells",
-        details: help::LIST,
-        form: ONE_FILE,
-        run: lines::list,
-    },
-    Command {
-        name: "sheets",
-        usage: "FILE",
-        about: "list the sheets with their names",
-        details: help::SHEETS,
-        form: ONE_FILE,
-        run: lines::sheets,
-    },
-    Command {
-        name: "strings",
-        usage: "FILE",
-        about: "list the shared strings",
-        details: help::STRINGS,
-        form: ONE_FILE,
-        run: lines::strings,
-    },
-    Command {
-        name: "fetch",
-        usage: "FILE INDEX [--room N]",
-        about: "give the 16-bit units of one shared string",
-        details: help::FETCH,
-        form: Form {
-            operands: &["FILE", "INDEX"],
-            valued: &["--room"],
-            ..ONE_FILE
-        },
-        run: lines::fetch,
-    },
-    Command {
-        name: "judge",
-        usage: "HEX... | -",
-        about: "judge the bytes of formulas",
-        details: help::JUDGE,
-        form: Form {
-            operands: &["HEX"],
-            repeats: true,
-            ..ONE_FILE
-        },
-        run: judge::run,
-    },
-    Command {
-        name: "export",
-        usage: "FILE [--sheet N] --csv|--json",
-        about: "write the cells with their texts as CSV or JSON",
-        details: help::EXPORT,
-        form: Form {
-            flags: &["--csv", "--json"],
-            valued: &["--sheet"],
-            ..ONE_FILE
-        },
-        run: export::run,
-    },
-    Command {
-        name: "correct",
-        usage: "FILE SHEET ROW COLUMN number|text|truth|error VALUE (--output OUT | --in-place)",
-        about: "give one cell a new value",
-        details: help::CORRECT,
-        form: Form {
-            operands: &["FILE", "SHEET", "ROW", "COLUMN", "KIND", "VALUE"],
-            flags: &["--in-place"],
-            valued: &["--output"],
-            ..ONE_FILE
-        },
-        run: correct::run,
-    },
+pub static COMMANDS: [Command; 11] = [
+    check::CHECK,
+    lines::SHEETS,
+    export::EXPORT,
+    correct::CORRECT,
+    lines::LIST,
+    lines::STRINGS,
+    lines::FETCH,
+    judge::JUDGE,
+    help::HELP_COMMAND,
+    manual::MAN,
+    completions::COMPLETIONS,
 ];
 
 pub fn run(words: &[OsString], out: &mut Output) -> Result<Status, Failure> {
     let Some((first, rest)) = words.split_first() else {
         return Err(without_command("a command is missing"));
     };
-    if first == "--help" {
-        help::write_all(out)?;
-        return Ok(Status::Answered);
-    }
-    if first == "--version" && rest.is_empty() {
+    if ["--version", "-V"].iter().any(|version| first == version) && rest.is_empty() {
         writeln!(out, "vaigunthe {}", env!("CARGO_PKG_VERSION"))?;
         return Ok(Status::Answered);
     }
-    match COMMANDS.iter().find(|command| first == command.name) {
-        Some(command) => {
-            run_one(command, rest, out).map_err(|failure| in_command(command, failure))
-        }
-        None => Err(without_command(&format!("no command '{}'", Name(first)))),
-    }
+    let command = match HELP.iter().any(|help| first == help) {
+        true => &help::HELP_COMMAND,
+        false => named(first)?,
+    };
+    run_one(command, rest, out).map_err(|failure| in_command(command, failure))
+}
+
+/// The command of this name.
+pub fn named(name: &OsStr) -> Result<&'static Command, Failure> {
+    let found = COMMANDS.iter().find(|command| name == command.name);
+    found.ok_or_else(|| {
+        let meant = match nearest(name, COMMANDS.iter().map(|command| command.name)) {
+            Some(near) => format!("; did you mean '{near}'?"),
+            None => String::new(),
+        };
+        without_command(&format!("no command '{}'{meant}", Word(name)))
+    })
 }
 
 fn run_one(
@@ -139,7 +73,7 @@ fn run_one(
     words: &[OsString],
     out: &mut Output,
 ) -> Result<Status, Failure> {
-    match Asked::read(&command.form, words)? {
+    match Asked::read(command, words)? {
         Asked::Help => {
             help::write_one(command, out)?;
             Ok(Status::Answered)
@@ -150,7 +84,7 @@ fn run_one(
 
 fn without_command(message: &str) -> Failure {
     let names: Vec<_> = COMMANDS.iter().map(|command| command.name).collect();
-    Failure::usage(format!(
+    Failure::Command(format!(
         "{message}\nusage: vaigunthe COMMAND ...\ncommands: {}\nvaigunthe --help says more",
         names.join(", ")
     ))
@@ -160,8 +94,10 @@ fn without_command(message: &str) -> Failure {
 fn in_command(command: &Command, failure: Failure) -> Failure {
     match failure {
         Failure::Usage(message) => Failure::usage(format!(
-            "{}: {message}\nusage: vaigunthe {} {}",
-            command.name, command.name, command.usage
+            "{}: {message}\n{}vaigunthe help {} says more",
+            command.name,
+            Page(&[Part::Usage(help::ways(command))]),
+            command.name
         )),
         other => other,
     }

@@ -1,6 +1,7 @@
 //! correct: one cell's new value, in a file that is replaced whole.
 
-use crate::arguments::Arguments;
+use crate::arguments::{Arguments, Operands, Setting};
+use crate::commands::Command;
 use crate::input::{Stream, STANDARD};
 use crate::outcome::{complain, Failure, Output, Status};
 use crate::replace::{Held, Place};
@@ -10,6 +11,40 @@ use station::{NewValue, Refusal};
 use std::ffi::OsStr;
 use std::io::{self, Write};
 use std::path::Path;
+
+pub const CORRECT: Command = Command {
+    name: "correct",
+    about: "give one cell a new value",
+    usage: &[
+        "FILE SHEET ROW COLUMN KIND VALUE --in-place",
+        "FILE SHEET ROW COLUMN KIND VALUE --output OUT",
+    ],
+    operands: Operands::Each(&["FILE", "SHEET", "ROW", "COLUMN", "KIND", "VALUE"]),
+    words: &["number", "text", "truth", "error"],
+    options: &[
+        Setting::with("--output", "OUT", "write the corrected stream to OUT; where OUT is - it goes to standard output, and the answer to standard error"),
+        Setting::alone("--in-place", "replace FILE; other hard links to it keep the old bytes"),
+    ],
+    examples: &[
+        ("vaigunthe correct session.bin 0 0 1 number 72.5 --in-place", "row 0, column 1 of the first sheet"),
+    ],
+    details: "\
+Gives the one cell at this address a new value, and changes no other byte:
+  granted
+  refused N at O                 and no file is touched
+
+KIND and VALUE are one of:
+  number VALUE   a decimal, or all 64 bits as bits:3FF0000000000000
+  text VALUE     the index of a shared string
+  truth VALUE    true, false or a byte from 0 to 255
+  error VALUE    a code of two hex digits
+
+A file is replaced whole or not at all, and keeps its permissions; a link stays,
+and what it leads to is replaced. Corrections in place of one file wait for each
+other.
+",
+    run,
+};
 
 /// What is asked of a stream.
 struct Question {
@@ -61,7 +96,7 @@ impl<'a> Target<'a> {
     }
 }
 
-pub fn run(arguments: &Arguments, out: &mut Output) -> Result<Status, Failure> {
+fn run(arguments: &Arguments, out: &mut Output) -> Result<Status, Failure> {
     let file = arguments.operand(0);
     let question = Question::of(arguments)?;
     match Target::of(arguments)? {

@@ -5,13 +5,50 @@ mod json;
 mod number;
 mod strings;
 
-use crate::arguments::Arguments;
+use crate::arguments::{Arguments, Operands, Setting};
+use crate::commands::Command;
 use crate::input::Stream;
 use crate::outcome::{Failure, Output, Status};
 use station::{Cell, FormulaResult, Refusal, Sheet, Value, Workbook};
 use strings::SharedStrings;
 
-pub fn run(arguments: &Arguments, out: &mut Output) -> Result<Status, Failure> {
+pub const EXPORT: Command = Command {
+    name: "export",
+    about: "write the cells with their texts as CSV or JSON",
+    usage: &["FILE --csv|--json [--sheet N]"],
+    operands: Operands::Each(&["FILE"]),
+    words: &[],
+    options: &[
+        Setting::alone("--csv", "a header, and then a line for each cell: sheet,sheet_name,row,column,kind,value"),
+        Setting::alone("--json", "an object with the sheets, each with number, name, type, rows and cells; a cell has row, column, kind, value and, where it is a formula, its tokens in hex"),
+        Setting::with("--sheet", "N", "only this sheet"),
+    ],
+    examples: &[
+        ("vaigunthe export session.bin --csv > session.csv", "all cells"),
+    ],
+    details: "\
+One of --csv and --json is needed. The kinds of cells, with their values:
+  blank            none
+  number           the shortest decimal that reads back to the same 64 bits;
+                   an infinity or a NaN is its bits, bits:7FF8000000000000
+  text             the shared string
+  truth            true or false
+  error            #NULL! #DIV/0! #VALUE! #REF! #NAME? #NUM! #N/A
+  formula number, formula truth, formula error
+                   the stored result, as above
+  formula text     none: the text is not in the formula's record
+  formula empty    an empty text
+No value is an empty field in CSV and null in JSON. Cells come in stream order.
+
+CSV is as RFC 4180 has it, lines ending with CR LF, in UTF-8. Control characters
+other than tab, CR and LF, separators, characters that turn the direction of
+text, and lone surrogates are written \\u{85}; a backslash is doubled only where
+one of these, or the text u{, comes right after it. JSON has \\u0085 and \\uD800.
+",
+    run,
+};
+
+fn run(arguments: &Arguments, out: &mut Output) -> Result<Status, Failure> {
     let write = match (arguments.has("--csv"), arguments.has("--json")) {
         (true, false) => csv::write,
         (false, true) => json::write,

@@ -1,20 +1,42 @@
 //! What the tool says of itself.
 
-use crate::commands::{Command, COMMANDS};
-use crate::outcome::Output;
+use crate::arguments::{Arguments, Operands};
+use crate::commands::{self, Command, COMMANDS};
+use crate::outcome::{Failure, Output, Status};
+use crate::page::{parts, Page, Part};
 use std::io::{self, Write};
 
-const HEAD: &str = "\
-Reads old Excel workbooks (BIFF8 workbook streams), judges formula bytes, and
-corrects single cells. All answers come from a library that is proved.
+pub const ABOUT: &str = "checks, lists, exports and corrects workbook streams of old Excel files";
 
-usage: vaigunthe COMMAND ...
-       vaigunthe COMMAND --help
-       vaigunthe --help | --version
-
+const INTRODUCTION: &str = "\
+Reads old Excel workbooks (BIFF8 workbook streams, Excel 97 to 2003), judges
+formula bytes, and corrects single cells. All answers come from a library that
+is proved.
 ";
 
-const TAIL: &str = "
+/// What somebody needs who has just got it.
+const FIRST_STEPS: [(&str, &str); 6] = [
+    (
+        "gsf cat session.xls Workbook > session.bin",
+        "take the workbook stream out of an .xls file (gsf is in Debian's package libgsf-bin)",
+    ),
+    (
+        "vaigunthe check session.bin",
+        "does it pass, and what does it hold?",
+    ),
+    ("vaigunthe sheets session.bin", "its sheets"),
+    (
+        "vaigunthe export session.bin --csv > session.csv",
+        "all cells with their values",
+    ),
+    (
+        "vaigunthe correct session.bin 0 0 1 number 72.5 --in-place",
+        "give one cell a new value",
+    ),
+    ("vaigunthe help export", "all about one command"),
+];
+
+const GENERAL: &str = "\
 FILE is the workbook stream of an .xls file, taken out of that file; - is
 standard input. Sheets, rows, columns and strings are counted from 0. What comes
 after -- is no option.
@@ -24,132 +46,108 @@ feed \\n, carriage return \\r, backslash \\\\, and as \\u{85}, with the code in 
 all other control characters, the line and paragraph separators, the characters
 that turn the direction of text, and a surrogate that has no other. In names of
 files a byte that is no UTF-8 is \\xFF.
-
-Exit status: 0 answered; 1 refused; 2 wrong usage, or a file that can't be read
-or written (this one wins); 141 standard output was closed before the end.
-
-A refusal is its number and the offset of what is at fault in the stream or
-formula, 'refused N at O':
 ";
 
-pub fn write_all(out: &mut Output) -> io::Result<()> {
-    writeln!(out, "{HEAD}commands:")?;
-    for command in &COMMANDS {
-        writeln!(out, "  {:<9}{}", command.name, command.about)?;
+const STATUS: &str = "\
+0 answered; 1 refused; 2 wrong usage, or a file that can't be read or written
+(this one wins); 141 standard output was closed before the end.
+";
+
+const REFUSALS: &str = "\
+A refusal is its number and the offset of what is at fault in the stream or
+formula. What it means is said on standard error. Its bare line, 'refused N at
+O', is on standard output for programs; where data is asked for (sheets, strings,
+export), nothing is.
+";
+
+pub const HELP_COMMAND: Command = Command {
+    name: "help",
+    about: "say what the tool does, or all about one command",
+    usage: &["[COMMAND]"],
+    operands: Operands::AtLeast(&[]),
+    words: &[],
+    options: &[],
+    examples: &[("vaigunthe help export", "all about export")],
+    details: "\
+-h and --help do the same, alone or after a command.
+",
+    run,
+};
+
+fn run(arguments: &Arguments, out: &mut Output) -> Result<Status, Failure> {
+    match arguments.operands() {
+        [] => write!(out, "{}", Page(&tool()))?,
+        [name, ..] => write_one(commands::named(name)?, out)?,
     }
-    write!(out, "{TAIL}")?;
-    for (number, meaning) in station::meanings() {
-        writeln!(out, "  {number:>2}  {meaning}")?;
-    }
-    Ok(())
+    Ok(Status::Answered)
 }
 
 pub fn write_one(command: &Command, out: &mut Output) -> io::Result<()> {
-    writeln!(out, "vaigunthe {}: {}", command.name, command.about)?;
-    writeln!(
-        out,
-        "\nusage: vaigunthe {} {}\n",
-        command.name, command.usage
-    )?;
-    write!(out, "{}", command.details)
+    let about = format!("vaigunthe {}: {}", command.name, command.about);
+    let mut page = vec![Part::Text(about), Part::Usage(ways(command))];
+    page.extend(rest(command));
+    write!(out, "{}", Page(&page))
 }
 
-pub const CHECK: &str = "\
-A line for each file, in the order given:
-  FILE: passed, S sheets, U strings, C cells
-  FILE: refused N at O: what that means
-The status is 1 where one is refused, and 2 where one can't be read; the others
-are answered all the same. On a terminal a line shows how far it has come.
-";
+/// The ways to write a command.
+pub fn ways(command: &Command) -> Vec<String> {
+    let way = |words: &&str| format!("vaigunthe {} {words}", command.name);
+    command.usage.iter().map(way).collect()
+}
 
-pub const LIST: &str = "\
-The lines that the program station prints, for a stream of any length up to
-16,777,216 bytes:
-  sheets S strings U cells C
-  sheet N rows R                 then the cells of that sheet, in stream order:
-  ROW COLUMN blank
-  ROW COLUMN number BITS         the 64 bits of the number in hex
-  ROW COLUMN text INDEX          the index of a shared string
-  ROW COLUMN truth 0|1
-  ROW COLUMN error CODE          in two hex digits
-  ROW COLUMN formula RESULT      number, truth or error as above, text or empty
-Where the stream is refused: refused N at O.
-";
+/// What is said of a command beside what it is for and how it is written.
+pub fn rest(command: &Command) -> Vec<Part> {
+    let mut page = vec![Part::heading("examples")];
+    page.extend(examples(command.examples));
+    if !command.options.is_empty() {
+        page.push(Part::heading("options"));
+    }
+    for option in command.options {
+        let label = format!("{} {}", option.name, option.value);
+        page.push(Part::item(label.trim_end(), option.about));
+    }
+    page.extend(parts(command.details));
+    page
+}
 
-pub const SHEETS: &str = "\
-A line for each sheet, with tabs between:
-  number, type (worksheet, macro or chart), rows, cells, name
-The number of rows is the highest row with a cell plus one, or 0. How names are
-written: vaigunthe --help.
-";
+fn examples(examples: &[(&str, &str)]) -> Vec<Part> {
+    let item = |(call, text): &(&str, &str)| Part::item(*call, text);
+    examples.iter().map(item).collect()
+}
 
-pub const STRINGS: &str = "\
-A line for each shared string: its index, a tab and its text. How texts are
-written: vaigunthe --help.
-";
+pub fn ways_of_tool() -> Vec<String> {
+    ["COMMAND ...", "help COMMAND", "--help | --version"]
+        .map(|words| format!("vaigunthe {words}"))
+        .into()
+}
 
-pub const FETCH: &str = "\
-Gives the string at this index of the table:
-  units N XXXX XXXX ...          its N units, four hex digits each
-  refused N at O
+/// What comes first.
+pub fn introduction() -> Vec<Part> {
+    let mut page = parts(INTRODUCTION);
+    page.push(Part::heading("first steps"));
+    page.extend(examples(&FIRST_STEPS));
+    page
+}
 
-  --room N   how many units there is room for, 65,535 where this isn't given; a
-             longer string is refused with 12
-";
+/// What is said of the tool as a whole.
+fn tool() -> Vec<Part> {
+    let mut page = introduction();
+    page.insert(1, Part::Usage(ways_of_tool()));
+    page.push(Part::heading("commands"));
+    let about = |command: &Command| Part::item(command.name, command.about);
+    page.extend(COMMANDS.iter().map(about));
+    page.extend(closing());
+    page
+}
 
-pub const JUDGE: &str = "\
-Each HEX is one formula, its token bytes in hex, two digits a byte; in quotes it
-may have spaces. With - there is a formula in each line of standard input; an
-empty line is an empty formula. A line of answer for each:
-  accepted
-  refused N at O
-Where one HEX is no hex, none is answered. Lines are answered as they come; one
-that is no hex ends that with status 2 and its number on standard error.
-";
-
-pub const EXPORT: &str = "\
-One of --csv and --json is needed:
-  --csv      a header, and then a line for each cell:
-             sheet,sheet_name,row,column,kind,value
-  --json     an object with the sheets, each with number, name, type, rows and
-             cells; a cell has row, column, kind, value and, where it is a
-             formula, its tokens in hex
-  --sheet N  only this sheet
-
-The kinds, with their values:
-  blank            none
-  number           the shortest decimal that reads back to the same 64 bits;
-                   an infinity or a NaN is its bits, bits:7FF8000000000000
-  text             the shared string
-  truth            true or false
-  error            #NULL! #DIV/0! #VALUE! #REF! #NAME? #NUM! #N/A
-  formula number, formula truth, formula error
-                   the stored result, as above
-  formula text     none: the text is not in the formula's record
-  formula empty    an empty text
-No value is an empty field in CSV and null in JSON. Cells come in stream order.
-
-CSV is as RFC 4180 has it, lines ending with CR LF, in UTF-8. Control characters
-other than tab, CR and LF, separators, characters that turn the direction of
-text, and lone surrogates are written \\u{85}; a backslash is doubled only where
-one of these, or the text u{, comes right after it. JSON has \\u0085 and \\uD800.
-";
-
-pub const CORRECT: &str = "\
-Gives the one cell at this address a new value, and changes no other byte:
-  granted
-  refused N at O                 and no file is touched
-
-  number VALUE   a decimal, or all 64 bits as bits:3FF0000000000000
-  text VALUE     the index of a shared string
-  truth VALUE    true, false or a byte from 0 to 255
-  error VALUE    a code of two hex digits
-
-  --output OUT   write the corrected stream to OUT; where OUT is - it goes to
-                 standard output, and the answer to standard error
-  --in-place     replace FILE; other hard links to it keep the old bytes
-
-A file is replaced whole or not at all, and keeps its permissions; a link stays,
-and what it leads to is replaced. Corrections in place of one file wait for each
-other.
-";
+/// What holds for all commands.
+pub fn closing() -> Vec<Part> {
+    let mut page = parts(GENERAL);
+    page.push(Part::heading("exit status"));
+    page.extend(parts(STATUS));
+    page.push(Part::heading("refusals"));
+    page.extend(parts(REFUSALS));
+    let meaning = |(number, meaning)| Part::item(format!("{number:>2}"), meaning);
+    page.extend(station::meanings().map(meaning));
+    page
+}

@@ -1,6 +1,7 @@
 //! judge: formulas in hex, a line of answer each.
 
-use crate::arguments::Arguments;
+use crate::arguments::{Arguments, Operands};
+use crate::commands::Command;
 use crate::input::STANDARD;
 use crate::outcome::{complain, Failure, Output, Status};
 use station::Refusal;
@@ -8,12 +9,37 @@ use std::ffi::OsString;
 use std::fmt::Display;
 use std::io::{self, BufRead, BufReader, Read, Write};
 
+pub const JUDGE: Command = Command {
+    name: "judge",
+    about: "judge the bytes of formulas",
+    usage: &["HEX...", "-"],
+    operands: Operands::Several("HEX"),
+    words: &[],
+    options: &[],
+    examples: &[
+        ("vaigunthe judge 1E0100", "one formula, the number 1"),
+        ("vaigunthe judge - < formulas.txt", "a formula in each line"),
+    ],
+    details: "\
+Each HEX is one formula, its token bytes in hex, two digits a byte; in quotes it
+may have spaces. With - there is a formula in each line of standard input; an
+empty line is an empty formula. A line of answer for each:
+  accepted
+  refused N at O
+What a refusal means is said on standard error, once for each number.
+
+Where one HEX is no hex, none is answered. Lines are answered as they come; one
+that is no hex ends that with status 2 and its number on standard error.
+",
+    run,
+};
+
 /// No line is read on without end. What is longer can only be spaces, or a formula far over the greatest length.
 const LONGEST_LINE: u64 = 1 << 26;
 
 const NOT_HEX: &str = "not hex: each byte of a formula is two digits, 0 to 9 or A to F";
 
-pub fn run(arguments: &Arguments, out: &mut Output) -> Result<Status, Failure> {
+fn run(arguments: &Arguments, out: &mut Output) -> Result<Status, Failure> {
     match arguments.operands() {
         [only] if only == STANDARD => judge_lines(io::stdin().lock(), out),
         words => judge_words(words, out),

@@ -1,12 +1,98 @@
 //! list, sheets, strings and fetch: what a stream holds, a line each.
 
-use crate::arguments::Arguments;
+use crate::arguments::{Arguments, Operands, Setting};
+use crate::commands::Command;
 use crate::input::Stream;
 use crate::outcome::{Failure, Output, Status};
 use crate::text::InLine;
 use station::{Cell, FormulaResult, SheetKind, Value, Workbook, LONGEST_STRING};
 use std::fmt::{self, Display, Formatter};
 use std::io::{self, Write};
+
+/// What most commands take.
+const ONE_FILE: Operands = Operands::Each(&["FILE"]);
+
+pub const LIST: Command = Command {
+    name: "list",
+    about: "list all sheets and cells in the program's lines",
+    usage: &["FILE"],
+    operands: ONE_FILE,
+    words: &[],
+    options: &[],
+    examples: &[(
+        "vaigunthe list session.bin",
+        "everything, a line for each cell",
+    )],
+    details: "\
+The lines that the program station prints, for a stream of any length up to
+16,777,216 bytes:
+  sheets S strings U cells C
+  sheet N rows R                 then the cells of that sheet, in stream order:
+  ROW COLUMN blank
+  ROW COLUMN number BITS         the 64 bits of the number in hex
+  ROW COLUMN text INDEX          the index of a shared string
+  ROW COLUMN truth 0|1
+  ROW COLUMN error CODE          in two hex digits
+  ROW COLUMN formula RESULT      number, truth or error as above, text or empty
+Where the stream is refused: refused N at O. For numbers and texts that people
+read there is export.
+",
+    run: list,
+};
+
+pub const SHEETS: Command = Command {
+    name: "sheets",
+    about: "list the sheets with their names",
+    usage: &["FILE"],
+    operands: ONE_FILE,
+    words: &[],
+    options: &[],
+    examples: &[(
+        "vaigunthe sheets session.bin",
+        "number, type, rows, cells and name of each",
+    )],
+    details: "\
+A line for each sheet, with tabs between:
+  number, type (worksheet, macro or chart), rows, cells, name
+The number of rows is the highest row with a cell plus one, or 0. How names are
+written: vaigunthe --help.
+",
+    run: sheets,
+};
+
+pub const STRINGS: Command = Command {
+    name: "strings",
+    about: "list the shared strings",
+    usage: &["FILE"],
+    operands: ONE_FILE,
+    words: &[],
+    options: &[],
+    examples: &[(
+        "vaigunthe strings session.bin",
+        "the index and the text of each",
+    )],
+    details: "\
+A line for each shared string: its index, a tab and its text. How texts are
+written: vaigunthe --help.
+",
+    run: strings,
+};
+
+pub const FETCH: Command = Command {
+    name: "fetch",
+    about: "give the 16-bit units of one shared string",
+    usage: &["FILE INDEX [--room N]"],
+    operands: Operands::Each(&["FILE", "INDEX"]),
+    words: &[],
+    options: &[Setting::with("--room", "N", "how many units there is room for, 65,535 where this isn't given; a longer string is refused with 12")],
+    examples: &[("vaigunthe fetch session.bin 1", "the second string of the table")],
+    details: "\
+Gives the string at this index of the table:
+  units N XXXX XXXX ...          its N units, four hex digits each
+  refused N at O
+",
+    run: fetch,
+};
 
 /// Checks the stream, and has what it holds written where it passes: data, so that standard output has nothing where it does not.
 fn answer(
@@ -25,7 +111,7 @@ fn answer(
 }
 
 /// A refusal is a line of the program's, so it stands where the others would.
-pub fn list(arguments: &Arguments, out: &mut Output) -> Result<Status, Failure> {
+fn list(arguments: &Arguments, out: &mut Output) -> Result<Status, Failure> {
     let stream = Stream::read(arguments.operand(0))?;
     match station::check(&stream.bytes) {
         Ok(workbook) => {
@@ -74,7 +160,7 @@ impl Display for CellLine<'_> {
     }
 }
 
-pub fn sheets(arguments: &Arguments, out: &mut Output) -> Result<Status, Failure> {
+fn sheets(arguments: &Arguments, out: &mut Output) -> Result<Status, Failure> {
     answer(arguments, out, write_sheets)
 }
 
@@ -101,7 +187,7 @@ pub fn type_name(kind: SheetKind) -> &'static str {
     }
 }
 
-pub fn strings(arguments: &Arguments, out: &mut Output) -> Result<Status, Failure> {
+fn strings(arguments: &Arguments, out: &mut Output) -> Result<Status, Failure> {
     answer(arguments, out, write_strings)
 }
 
@@ -115,7 +201,7 @@ fn write_strings(workbook: &Workbook<'_>, out: &mut Output) -> io::Result<()> {
     Ok(())
 }
 
-pub fn fetch(arguments: &Arguments, out: &mut Output) -> Result<Status, Failure> {
+fn fetch(arguments: &Arguments, out: &mut Output) -> Result<Status, Failure> {
     let index = arguments.number(1)?;
     let room = arguments.number_option("--room")?;
     let stream = Stream::read(arguments.operand(0))?;

@@ -6,6 +6,7 @@
 mod arguments;
 mod check;
 mod commands;
+mod completions;
 mod correct;
 mod export;
 mod help;
@@ -13,7 +14,10 @@ mod hint;
 mod input;
 mod judge;
 mod lines;
+mod manual;
+mod nearest;
 mod outcome;
+mod page;
 mod progress;
 mod replace;
 mod text;

@@ -29,6 +29,8 @@ const CLOSED_PIPE: u8 = 141;
 /// Why there is no answer.
 #[derive(Debug)]
 pub enum Failure {
+    /// There is no such command.
+    Command(String),
     /// The arguments are not what the command takes.
     Usage(String),
     /// A file, or what is read from it, is not what it must be.
@@ -55,7 +57,9 @@ impl Failure {
     /// Says what went wrong. A reader that has seen enough and closed the pipe is told nothing.
     pub fn report(&self) -> ExitCode {
         match self {
-            Failure::Usage(message) | Failure::File(message) => complain(message),
+            Failure::Command(message) | Failure::Usage(message) | Failure::File(message) => {
+                complain(message)
+            }
             Failure::Output(error) if error.kind() == ErrorKind::BrokenPipe => {
                 return ExitCode::from(CLOSED_PIPE)
             }

@@ -13,10 +13,11 @@ pub struct Progress<W> {
 }
 
 impl Progress<Stderr> {
-    /// Shown only on a terminal, and only where there is more than one step.
+    /// Shown only on a terminal that knows the sequence, and only where there is more than one step.
     pub fn on_standard_error(total: usize) -> Self {
         let standard_error = io::stderr();
-        let seen = total > 1 && standard_error.is_terminal();
+        let dumb = std::env::var_os("TERM").is_none_or(|term| term.is_empty() || term == "dumb");
+        let seen = total > 1 && !dumb && standard_error.is_terminal();
         Progress::new(seen.then_some(standard_error), total)
     }
 }

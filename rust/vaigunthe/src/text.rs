@@ -60,6 +60,22 @@ impl Display for Name<'_> {
     }
 }
 
+/// A word of the command line in a message, cut where it is long.
+pub struct Word<'a>(pub &'a OsStr);
+
+/// How much of a word is enough to know it by.
+const LONGEST_WORD: usize = 50;
+
+impl Display for Word<'_> {
+    fn fmt(&self, f: &mut Formatter<'_>) -> fmt::Result {
+        let whole = Name(self.0).to_string();
+        match whole.char_indices().nth(LONGEST_WORD) {
+            Some((at, _)) => write!(f, "{}…", &whole[..at]),
+            None => f.write_str(&whole),
+        }
+    }
+}
+
 /// Text in a CSV field, before it is quoted. A backslash is a plain character there; it is doubled only where what comes next would make an escape
 /// of it.
 pub struct InCsv<'a>(pub &'a [u16]);

@@ -1,7 +1,7 @@
 //! The new value of a correction, as it is written on the command line.
 
 use crate::outcome::Failure;
-use crate::text::Name;
+use crate::text::Word;
 use station::NewValue;
 use std::ffi::OsStr;
 
@@ -37,13 +37,13 @@ const KINDS: [Kind; 4] = [
 
 pub fn read(kind: &OsStr, value: &OsStr) -> Result<NewValue, Failure> {
     let Some(kind) = KINDS.iter().find(|known| kind == known.name) else {
-        let kind = Name(kind);
+        let kind = Word(kind);
         return Err(Failure::usage(format!(
             "a value is a number, text, truth or error, not '{kind}'"
         )));
     };
     value.to_str().and_then(kind.read).ok_or_else(|| {
-        let (name, wanted, value) = (kind.name, kind.wanted, Name(value));
+        let (name, wanted, value) = (kind.name, kind.wanted, Word(value));
         Failure::usage(format!("{name} takes {wanted}, not '{value}'"))
     })
 }

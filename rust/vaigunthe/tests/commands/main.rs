@@ -2,12 +2,14 @@
 //! second reader, or written down after document 01.
 
 mod check;
+mod completions;
 mod correct;
 mod export;
 mod fetch;
 mod judge;
 mod list;
 mod made;
+mod manual;
 mod parse;
 mod replace;
 mod sheets;

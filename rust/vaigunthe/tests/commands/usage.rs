@@ -2,64 +2,137 @@
 
 use crate::tool::{case, finish, run, run_with, Folder, TOLD_BY, TOOL};
 use crate::words;
+use std::ffi::OsStr;
 use std::fs::{self, File};
 use std::io::Read;
 use std::process::{Command, Stdio};
 
-const COMMANDS: [&str; 8] = [
-    "check", "list", "sheets", "strings", "fetch", "judge", "export", "correct",
+pub const COMMANDS: [&str; 11] = [
+    "check",
+    "list",
+    "sheets",
+    "strings",
+    "fetch",
+    "judge",
+    "export",
+    "correct",
+    "help",
+    "man",
+    "completions",
 ];
+
+pub fn helped<W: AsRef<OsStr>>(words: &[W]) -> String {
+    let ran = run(words);
+    assert_eq!((ran.status, &ran.err[..]), (Some(0), ""));
+    ran.text().to_string()
+}
 
 #[test]
 fn help() {
-    let ran = run(&["--help"]);
-    assert_eq!((ran.status, &ran.err[..]), (Some(0), ""));
+    let page = helped(&["--help"]);
     for command in COMMANDS {
-        assert!(ran.text().contains(&format!("\n  {command} ")), "{command}");
+        assert!(page.contains(&format!("\n  {command} ")), "{command}");
     }
     for (number, words) in (1..).zip(TOLD_BY) {
-        let start = format!("  {number:>2}  ");
-        let line = ran.text().lines().find(|line| line.starts_with(&start));
-        assert!(line.is_some_and(|line| line.contains(words)), "{number}");
+        let (_, after) = page
+            .split_once(&format!("\n  {number:>2}  "))
+            .expect("a number");
+        let (meaning, _) = after
+            .split_once(&format!("\n  {:>2}  ", number + 1))
+            .unwrap_or((after, ""));
+        let meaning: Vec<_> = meaning.split_whitespace().collect();
+        assert!(meaning.join(" ").contains(words), "{number}");
     }
     for escape in ["\\t", "\\n", "\\r", "\\\\", "\\u{85}"] {
-        assert!(ran.text().contains(escape), "{escape}");
+        assert!(page.contains(escape), "{escape}");
+    }
+    for words in [["-h"], ["help"]] {
+        assert_eq!(helped(&words), page);
     }
     for command in COMMANDS {
-        let ran = run(&[command, "--help"]);
-        assert_eq!((ran.status, &ran.err[..]), (Some(0), ""));
+        let page = helped(&["help", command]);
+        let start = format!("vaigunthe {command}: ");
+        assert!(page.starts_with(&start), "{page}");
         let usage = format!("\nusage: vaigunthe {command} ");
-        assert!(ran.text().contains(&usage), "{command}");
-        assert_eq!(run(&[command, "operand", "--help", "another"]), ran);
+        assert!(page.contains(&usage), "{command}");
+        assert!(page.contains("\nexamples:\n"), "{command}");
+        assert_eq!(helped(&[command, "--help"]), page);
+        assert_eq!(helped(&[command, "-h"]), page);
+        assert_eq!(helped(&["--help", command]), page);
+        assert_eq!(helped(&[command, "operand", "--help", "another"]), page);
     }
+    run(&["help", "chekc"]).fails("did you mean 'check'?");
 }
 
-/// Help fits a terminal: no line of a command's help is long, but the one that shows its usage.
+/// Help fits a terminal: no line is long, and none has an escape sequence.
 #[test]
 fn help_in_short_lines() {
-    for command in COMMANDS {
-        let ran = run(&[command, "--help"]);
-        for line in ran.text().lines() {
-            assert!(line.len() <= 80 || line.starts_with("usage: "), "{line}");
+    let pages = COMMANDS.iter().map(|command| helped(&["help", command]));
+    for page in pages.chain([helped(&["help"])]) {
+        for line in page.lines() {
+            assert!(line.chars().count() <= 80, "{line}");
+            assert!(!line.contains('\x1b') && !line.ends_with(' '), "{line}");
         }
     }
 }
 
+/// The calls in the help of a command.
+fn examples(page: &str) -> Vec<&str> {
+    let (_, after) = page.split_once("\nexamples:\n").expect("examples");
+    let (examples, _) = after.split_once("\n\n").unwrap_or((after, ""));
+    examples
+        .lines()
+        .filter_map(|line| line.strip_prefix("  "))
+        .filter(|line| !line.starts_with(' '))
+        .collect()
+}
+
+/// Whoever copies an example gets an answer.
+#[test]
+fn examples_are_right() {
+    let mut seen = 0;
+    for command in COMMANDS {
+        let page = helped(&["help", command]);
+        for example in examples(&page) {
+            let folder = Folder::new();
+            let stream = fs::read(case("cells.in")).expect("an input");
+            folder.put("session.bin", &stream);
+            fs::create_dir(folder.at("sessions")).expect("a folder");
+            folder.put("sessions/one.bin", &stream);
+            folder.put("sessions/bad.bin", &stream[1..]);
+            folder.put("formulas.txt", b"1E0100\n");
+            let mut shell = Command::new("bash");
+            let call = format!("vaigunthe() {{ \"$TOOL\" \"$@\"; }}; {example}");
+            shell.args(["-c", &call]).env("TOOL", TOOL);
+            let ran = finish(shell.current_dir(folder.path()), b"");
+            assert_eq!((ran.status, &ran.err[..]), (Some(0), ""), "{example}");
+            assert!(example.contains("vaigunthe"), "{example}");
+            seen += 1;
+        }
+    }
+    assert!(seen > COMMANDS.len(), "only {seen} examples");
+}
+
 #[test]
 fn version() {
-    run(&["--version"]).says(0, concat!("vaigunthe ", env!("CARGO_PKG_VERSION"), "\n"));
+    let version = concat!("vaigunthe ", env!("CARGO_PKG_VERSION"), "\n");
+    run(&["--version"]).says(0, version);
+    run(&["-V"]).says(0, version);
     run(&["--version", "more"]).fails("usage: ");
 }
 
 #[test]
 fn unknown_words() {
     run::<&str>(&[]).fails("usage: vaigunthe COMMAND");
-    run(&["chekc", "file"]).fails("no command 'chekc'");
+    run(&["chekc", "file"]).fails("no command 'chekc'; did you mean 'check'?\n");
+    run(&["exp"]).fails("did you mean 'export'?");
+    run(&["frobnicate"]).fails("no command 'frobnicate'\n");
     run(&["--verbose"]).fails("usage: ");
-    run(&["-h"]).fails("usage: ");
     for command in COMMANDS {
         let usage = format!("usage: vaigunthe {command} ");
-        run(&[command]).fails(&usage);
+        if !["help", "man"].contains(&command) {
+            run(&[command]).fails(&usage);
+        }
         run(&[command, "--unknown"]).fails(&usage);
         run(&[command, "-x"]).fails("unknown option '-x'");
         run(&[command, "--help=yes"]).fails("--help");
@@ -69,7 +142,60 @@ fn unknown_words() {
     }
     run(&["fetch", "file"]).fails("INDEX is missing");
     run(&["fetch", "file", "1", "--room"]).fails("--room needs a value");
+    run(&["fetch", "file", "1", "--rom", "7"]).fails("did you mean --room?");
     run(&["fetch", "file", "1", "--room", "1", "--room", "2"]).fails("twice");
+}
+
+/// A message stays short, however long a word is.
+#[test]
+fn long_words_are_cut() {
+    let long = "x".repeat(100_000);
+    let option = format!("--{long}");
+    let calls: [&[&str]; 7] = [
+        &[&long],
+        &["help", &long],
+        &["check", &option],
+        &["list", "one", &long],
+        &["fetch", "file", &long],
+        &["fetch", "file", "0", "--room", &long],
+        &[
+            "correct",
+            "file",
+            "0",
+            "0",
+            "0",
+            "number",
+            &long,
+            "--in-place",
+        ],
+    ];
+    for words in calls {
+        let ran = run(words);
+        ran.fails("xxx…'");
+        assert!(ran.err.len() < 1_000, "{}", ran.err);
+    }
+}
+
+/// How far a run has come is shown on a terminal, but not where that would only print the sequence.
+#[test]
+fn escape_sequences_only_where_they_are_known() {
+    let file = case("cells.in");
+    let call = format!("'{TOOL}' check '{0}' '{0}' > /dev/null", file.display());
+    for (term, shown) in [("xterm", true), ("dumb", false), ("", false)] {
+        let mut terminal = Command::new("script");
+        terminal
+            .args(["-qec", &call, "/dev/null"])
+            .env("TERM", term);
+        let ran = finish(&mut terminal, b"");
+        assert_eq!(ran.status, Some(0), "{}", ran.text());
+        assert_eq!(
+            ran.text().contains("\x1b[K"),
+            shown,
+            "{term}: {}",
+            ran.text()
+        );
+        assert_eq!(ran.text().contains("checking 2 of 2"), shown, "{term}");
+    }
 }
 
 #[test]
