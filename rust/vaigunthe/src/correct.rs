@@ -4,7 +4,7 @@ use crate::arguments::{Arguments, Operands, Setting};
 use crate::commands::Command;
 use crate::input::{Stream, STANDARD};
 use crate::outcome::{complain, Failure, Output, Status};
-use crate::replace::{Held, Place};
+use crate::replace::Place;
 use crate::text::Name;
 use crate::value;
 use station::{NewValue, Refusal};
@@ -39,9 +39,13 @@ KIND and VALUE are one of:
   truth VALUE    true, false or a byte from 0 to 255
   error VALUE    a code of two hex digits
 
-A file is replaced whole or not at all, and keeps its permissions; a link stays,
-and what it leads to is replaced. Corrections in place of one file wait for each
-other.
+A file is replaced whole or not at all: a new one, .vaigunthe-..., is written
+beside it, synced and renamed. It has the old one's permissions; a link stays,
+and what it leads to is replaced. A file that you may not write to is not
+replaced. Runs that replace the same file wait for each other, with a lock on it
+(flock), so that no granted correction is lost. A run that is ended by SIGINT,
+SIGTERM or SIGHUP removes its new file; what a killed one leaves is removed by
+the next run for the same file.
 ",
     run,
 };
@@ -77,7 +81,6 @@ impl Question {
 
 /// Where the corrected stream goes.
 enum Target<'a> {
-    InPlace,
     File(&'a OsStr),
     Output,
 }
@@ -90,7 +93,7 @@ impl<'a> Target<'a> {
             (None, true) if arguments.operand(0) == STANDARD => Err(Failure::usage(
                 "standard input can't be replaced: --output is needed",
             )),
-            (None, true) => Ok(Target::InPlace),
+            (None, true) => Ok(Target::File(arguments.operand(0))),
             _ => Err(Failure::usage("one of --output and --in-place is needed")),
         }
     }
@@ -100,21 +103,12 @@ fn run(arguments: &Arguments, out: &mut Output) -> Result<Status, Failure> {
     let file = arguments.operand(0);
     let question = Question::of(arguments)?;
     match Target::of(arguments)? {
-        Target::InPlace => in_place(file, &question, out),
         Target::File(name) => to_file(file, &question, name, out),
         Target::Output => to_output(file, &question, out),
     }
 }
 
-fn in_place(file: &OsStr, question: &Question, out: &mut Output) -> Result<Status, Failure> {
-    let held = Held::open(Path::new(file)).map_err(|error| Failure::of_file(file, &error))?;
-    let mut stream = Stream::read_from(file, &held.file)?;
-    match question.ask(&mut stream) {
-        Ok(()) => put(&held.place, file, &stream, out),
-        Err(refusal) => stream.refuse(refusal, out),
-    }
-}
-
+/// The place is held before the file is read: where both are one, no other run may replace it in between.
 fn to_file(
     file: &OsStr,
     question: &Question,
@@ -123,20 +117,11 @@ fn to_file(
 ) -> Result<Status, Failure> {
     let place = Place::of(Path::new(name)).map_err(|error| Failure::of_file(name, &error))?;
     let mut stream = Stream::read(file)?;
-    match question.ask(&mut stream) {
-        Ok(()) => put(&place, name, &stream, out),
-        Err(refusal) => stream.refuse(refusal, out),
+    if let Err(refusal) = question.ask(&mut stream) {
+        return stream.refuse(refusal, out);
     }
-}
-
-fn put(
-    place: &Place,
-    name: &OsStr,
-    stream: &Stream<'_>,
-    out: &mut Output,
-) -> Result<Status, Failure> {
     place
-        .put(&stream.bytes)
+        .put(|out| out.write_all(&stream.bytes))
         .map_err(|error| Failure::of_file(name, &error))?;
     // The file is replaced by now, so this can no longer be a failure.
     if let Err(error) = place.sync_folder() {

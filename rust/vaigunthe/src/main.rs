@@ -1,7 +1,7 @@
 //! vaigunthe: checks, lists, exports and corrects workbook streams. Every answer about a stream or a formula is the proved library's; this crate reads
 //! arguments and files, and writes the answers down.
 
-#![forbid(unsafe_code)]
+#![deny(unsafe_code)]
 
 mod arguments;
 mod check;
@@ -20,6 +20,7 @@ mod outcome;
 mod page;
 mod progress;
 mod replace;
+mod signals;
 mod text;
 mod value;
 
@@ -28,6 +29,7 @@ use std::ffi::OsString;
 use std::io::{self, BufWriter, Write};
 use std::process::ExitCode;
 
+/// How much is written at a time.
 const BUFFER: usize = 65_536;
 
 fn main() -> ExitCode {

@@ -1,43 +1,73 @@
 //! Puts a file in the place of another, whole or not at all.
 
+use crate::signals::Doomed;
 use std::fs::{self, File, Metadata, OpenOptions};
-use std::io::{self, ErrorKind, Write};
+use std::io::{self, BufWriter, ErrorKind, Write};
+use std::os::unix::ffi::OsStrExt;
 use std::os::unix::fs::{fchown, MetadataExt, OpenOptionsExt};
 use std::path::{Path, PathBuf};
 
-/// Where a file is to be put.
+/// Where a file is to be put. The file that is there already is held until that is done: another run that would replace it waits, so that what it reads is what
+/// this one has written.
 pub struct Place {
     path: PathBuf,
-    /// The file that is there already.
-    old: Option<Metadata>,
+    old: Option<Held>,
+}
+
+struct Held {
+    found: Metadata,
+    /// Open, and so locked.
+    _file: File,
 }
 
 impl Place {
-    /// Where a path leads, through links. Only a file is replaced: to put one in the place of a folder or a device would destroy it.
+    /// Where a path leads, through links.
     pub fn of(path: &Path) -> io::Result<Self> {
-        let path = match fs::canonicalize(path) {
-            Ok(path) => path,
-            Err(error) if error.kind() == ErrorKind::NotFound && !is_link(path) => {
-                let path = path.to_path_buf();
-                return Ok(Place { path, old: None });
+        loop {
+            let end = match fs::canonicalize(path) {
+                Ok(end) => end,
+                Err(error) if error.kind() == ErrorKind::NotFound && !is_link(path) => {
+                    path.to_path_buf()
+                }
+                Err(error) => return Err(error),
+            };
+            if let Some(place) = Self::at(end)? {
+                return Ok(place);
             }
-            Err(error) => return Err(error),
-        };
-        let old = fs::metadata(&path)?;
-        if !old.is_file() {
-            return Err(io::Error::other("not a regular file"));
         }
-        let old = Some(old);
-        Ok(Place { path, old })
     }
 
-    /// Puts the bytes there. The new file has the permissions and, as far as the system allows it, the owner of the old one.
-    pub fn put(&self, bytes: &[u8]) -> io::Result<()> {
-        let mut new = Temporary::beside(&self.path, self.old.is_some())?;
+    /// None where somebody else was quicker. Only a file is replaced: to put one in the place of a folder or a device would destroy it. It is opened for
+    /// writing: one that is write-protected stays as it is.
+    fn at(path: PathBuf) -> io::Result<Option<Self>> {
+        let old = match fs::symlink_metadata(&path) {
+            Ok(found) if found.is_symlink() => None,
+            Ok(found) if !found.is_file() => return Err(io::Error::other("not a regular file")),
+            Ok(found) => {
+                let file = OpenOptions::new().write(true).open(&path)?;
+                file.lock()?;
+                // Whoever held it before may have put another file in its place.
+                if !is_at(&file, &path) {
+                    return Ok(None);
+                }
+                Some(Held { found, _file: file })
+            }
+            Err(error) if error.kind() == ErrorKind::NotFound => None,
+            Err(error) => return Err(error),
+        };
+        Ok(Some(Place { path, old }))
+    }
+
+    /// Puts there what is written. The new file has the permissions and, as far as the system allows it, the owner of the old one.
+    pub fn put(&self, write: impl FnOnce(&mut dyn Write) -> io::Result<()>) -> io::Result<()> {
+        let new = Temporary::beside(&self.path, self.old.is_some())?;
         if let Some(old) = &self.old {
-            new.take_after(old)?;
+            new.take_after(&old.found)?;
         }
-        new.file.write_all(bytes)?;
+        let mut out = BufWriter::with_capacity(crate::BUFFER, &new.file);
+        write(&mut out)?;
+        out.flush()?;
+        drop(out);
         new.file.sync_all()?;
         new.rename(&self.path)
     }
@@ -52,6 +82,15 @@ fn is_link(path: &Path) -> bool {
     fs::symlink_metadata(path).is_ok_and(|found| found.is_symlink())
 }
 
+/// Whether the path leads to this open file.
+fn is_at(file: &File, path: &Path) -> bool {
+    let number = |found: Metadata| (found.dev(), found.ino());
+    match (file.metadata(), fs::metadata(path)) {
+        (Ok(one), Ok(other)) => number(one) == number(other),
+        _ => false,
+    }
+}
+
 fn folder(path: &Path) -> &Path {
     match path.parent() {
         Some(folder) if folder != Path::new("") => folder,
@@ -59,66 +98,64 @@ fn folder(path: &Path) -> &Path {
     }
 }
 
-/// A file that is read to be replaced, held so that another correction waits until that is done: else one of the two would be lost.
-pub struct Held {
-    pub file: File,
-    pub place: Place,
-}
-
-impl Held {
-    /// The file is opened for writing too: one that is write-protected stays as it is.
-    pub fn open(path: &Path) -> io::Result<Self> {
-        loop {
-            let place = Place::of(path)?;
-            let file = OpenOptions::new()
-                .read(true)
-                .write(true)
-                .open(&place.path)?;
-            file.lock()?;
-            // Whoever held it before has put another file in its place.
-            if same_file(&file.metadata()?, &fs::metadata(&place.path)?) {
-                return Ok(Held { file, place });
-            }
-        }
-    }
-}
-
-fn same_file(one: &Metadata, other: &Metadata) -> bool {
-    (one.dev(), one.ino()) == (other.dev(), other.ino())
-}
-
 /// How many names are tried for a temporary file.
 const TRIES: u32 = 1_000;
 
-/// A new file that is removed again unless it gets its name.
+/// A new file that is removed again unless it gets its name. It is locked while it is written: one that isn't was left by a run that was killed.
 struct Temporary {
     path: PathBuf,
     file: File,
     renamed: bool,
+    /// Last, so that a signal finds no moment in which the file is there and nobody removes it.
+    _doomed: Doomed,
 }
 
 impl Temporary {
-    /// A file in the folder of another; nobody else may read it while it is private.
+    /// A file in the folder of another; nobody else may read it while it is private. Its name comes from the other's, so that the next run with the same
+    /// target meets what one that was killed has left.
     fn beside(path: &Path, private: bool) -> io::Result<Self> {
         let folder = folder(path);
+        let mark = mark(path.file_name().unwrap_or_default().as_bytes());
         let mut options = OpenOptions::new();
         options.write(true).create_new(true);
         options.mode(if private { 0o600 } else { 0o666 });
         for number in 0..TRIES {
-            let name = format!(".vaigunthe-{}-{number}", std::process::id());
-            let path = folder.join(name);
-            match options.open(&path) {
+            let path = folder.join(format!(".vaigunthe-{mark:016x}-{number}"));
+            match Self::at(&path, &options) {
                 Err(error) if error.kind() == ErrorKind::AlreadyExists => {}
-                opened => {
-                    return opened.map(|file| Temporary {
-                        path,
-                        file,
-                        renamed: false,
-                    })
-                }
+                made => return made,
             }
         }
         Err(ErrorKind::AlreadyExists.into())
+    }
+
+    fn at(path: &Path, options: &OpenOptions) -> io::Result<Self> {
+        loop {
+            remove_leftover(path)?;
+            let doomed = Doomed::new(path)?;
+            let file = match options.open(path) {
+                Ok(file) => file,
+                Err(error) if error.kind() == ErrorKind::AlreadyExists => continue,
+                Err(error) => return Err(error),
+            };
+            let new = Temporary {
+                path: path.to_path_buf(),
+                file,
+                renamed: false,
+                _doomed: doomed,
+            };
+            new.file.lock()?;
+            // Another run may have taken it for left over before it was locked.
+            if is_at(&new.file, path) {
+                return Ok(new);
+            }
+            new.forget();
+        }
+    }
+
+    /// Somebody else has removed it.
+    fn forget(mut self) {
+        self.renamed = true;
     }
 
     fn take_after(&self, old: &Metadata) -> io::Result<()> {
@@ -142,4 +179,31 @@ impl Drop for Temporary {
             let _ = fs::remove_file(&self.path);
         }
     }
+}
+
+/// Removes what a run that was killed has left. One that is still being written is waited for; one that is somebody else's stays.
+fn remove_leftover(path: &Path) -> io::Result<()> {
+    let stays = || io::Error::from(ErrorKind::AlreadyExists);
+    match fs::symlink_metadata(path) {
+        Err(error) if error.kind() == ErrorKind::NotFound => return Ok(()),
+        Err(error) => return Err(error),
+        Ok(found) if !found.is_file() => return Err(stays()),
+        Ok(_) => {}
+    }
+    let left = match OpenOptions::new().write(true).open(path) {
+        Err(error) if error.kind() == ErrorKind::NotFound => return Ok(()),
+        opened => opened.map_err(|_| stays())?,
+    };
+    left.lock()?;
+    match is_at(&left, path) {
+        true => fs::remove_file(path).map_err(|_| stays()),
+        false => Ok(()),
+    }
+}
+
+/// A number for a name, by FNV-1a: the same in every run, and hardly ever that of another name.
+fn mark(name: &[u8]) -> u64 {
+    name.iter().fold(0xCBF2_9CE4_8422_2325, |mark, &byte| {
+        (mark ^ u64::from(byte)).wrapping_mul(0x0000_0100_0000_01B3)
+    })
 }

@@ -13,6 +13,7 @@ mod manual;
 mod parse;
 mod replace;
 mod sheets;
+mod signals;
 mod strings;
 mod tool;
 mod tour;

@@ -131,16 +131,23 @@ fn as_a_user(folder: &Folder) -> Command {
     command
 }
 
+/// In place, as its own output, and as the output of another.
 #[test]
 fn a_write_protected_file_stays() {
     let folder = Folder::new();
     let file = folder.put("in", &sample());
-    permit(&file, 0o444);
+    let other = folder.put("other", b"other");
+    for path in [&file, &other] {
+        permit(path, 0o444);
+    }
     permit(folder.path(), 0o777);
-    let mut call = ask(as_a_user(&folder), &file, "0 0 0 number 3", &in_place());
-    let before = (state(&file), folder.names());
-    finish(&mut call, b"").fails("ermission denied");
-    assert_eq!((state(&file), folder.names()), before);
+    for target in [in_place(), to(&file), to(&other)] {
+        let mut call = ask(as_a_user(&folder), &file, "0 0 0 number 3", &target);
+        let before = (state(&file), state(&other), folder.names());
+        finish(&mut call, b"").fails("ermission denied");
+        let after = (state(&file), state(&other), folder.names());
+        assert_eq!(after, before, "{target:?}");
+    }
 }
 
 #[test]
@@ -182,16 +189,19 @@ fn no_room_for_the_new_file() {
     }
 }
 
-/// Corrections of one file at one time: none that is granted is lost.
+/// Corrections of one file at one time, in place or with the file as the output too: none that is granted is lost.
 #[test]
 fn corrections_wait_for_each_other() {
     let folder = Folder::new();
-    let rows = 1..=40;
+    let rows = 1..=60;
     let records = rows.clone().map(|row| number(row, 0, 0.5)).collect();
     let file = folder.put("in", &one(&[], records));
+    symlink("in", folder.at("link")).expect("a link");
+    let targets = [in_place(), to(&file), to(folder.at("link"))];
     let start = |row: u16| {
         let question = format!("0 {row} 0 number {row}");
-        let mut call = ask(Command::new(TOOL), &file, &question, &in_place());
+        let target = &targets[usize::from(row % 3)];
+        let mut call = ask(Command::new(TOOL), &file, &question, target);
         call.stdout(Stdio::piped())
             .spawn()
             .expect("the tool starts")
@@ -203,5 +213,29 @@ fn corrections_wait_for_each_other() {
     }
     let wanted = rows.map(|row| number(row, 0, f64::from(row))).collect();
     assert_holds(&file, &one(&[], wanted));
-    assert_eq!(folder.names(), ["in"]);
+    assert_eq!(folder.names(), ["in", "link"]);
+}
+
+/// A file that isn't there yet: the last of them stays, whole.
+#[test]
+fn many_runs_with_one_new_file() {
+    let folder = Folder::new();
+    let file = folder.put("in", &sample());
+    let out = folder.at("out");
+    let start = |value: u16| {
+        let question = format!("0 0 0 number {value}");
+        let mut call = ask(Command::new(TOOL), &file, &question, &to(&out));
+        call.stdout(Stdio::piped())
+            .spawn()
+            .expect("the tool starts")
+    };
+    let children: Vec<Child> = (1..=40).map(start).collect();
+    for child in children {
+        let output = child.wait_with_output().expect("the tool ends");
+        assert_eq!(output.stdout, b"granted\n");
+    }
+    let bytes = fs::read(&out).expect("the file");
+    let written = |value| bytes == sample_with(0, NewValue::Number(f64::from(value)));
+    assert!((1..=40).any(written));
+    assert_eq!(folder.names(), ["in", "out"]);
 }
