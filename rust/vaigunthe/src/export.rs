@@ -7,6 +7,7 @@ mod strings;
 
 use crate::arguments::{Arguments, Operands, Setting};
 use crate::commands::Command;
+use crate::errors;
 use crate::input::Stream;
 use crate::outcome::{Failure, Output, Status};
 use station::{Cell, FormulaResult, Refusal, Sheet, Value, Workbook};
@@ -105,14 +106,14 @@ impl<'a> Book<'a> {
             Value::Number(bits) => ("number", Shown::Number(bits)),
             Value::Text(index) => ("text", Shown::Text(self.strings.get(index))),
             Value::Truth(truth) => ("truth", Shown::Truth(truth != 0)),
-            Value::Error(code) => ("error", Shown::Error(error_name(code))),
+            Value::Error(code) => ("error", Shown::Error(errors::name(code))),
             Value::Formula(FormulaResult::Number(bits)) => ("formula number", Shown::Number(bits)),
             Value::Formula(FormulaResult::Text) => ("formula text", Shown::Nothing),
             Value::Formula(FormulaResult::Truth(truth)) => {
                 ("formula truth", Shown::Truth(truth != 0))
             }
             Value::Formula(FormulaResult::Error(code)) => {
-                ("formula error", Shown::Error(error_name(code)))
+                ("formula error", Shown::Error(errors::name(code)))
             }
             Value::Formula(FormulaResult::Empty) => ("formula empty", Shown::Text(&[])),
         }
@@ -135,17 +136,4 @@ enum Shown<'a> {
     Text(&'a [u16]),
     Truth(bool),
     Error(&'static str),
-}
-
-/// The name that Excel shows for an error code. A stream that passes has no others.
-fn error_name(code: u8) -> &'static str {
-    match code {
-        0x00 => "#NULL!",
-        0x07 => "#DIV/0!",
-        0x0F => "#VALUE!",
-        0x17 => "#REF!",
-        0x1D => "#NAME?",
-        0x24 => "#NUM!",
-        _ => "#N/A",
-    }
 }

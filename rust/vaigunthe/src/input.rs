@@ -5,6 +5,7 @@ use crate::outcome::{complain, Failure, Status};
 use crate::text::Name;
 use station::Refusal;
 use std::ffi::OsStr;
+use std::fmt::Display;
 use std::fs::File;
 use std::io::{self, Read, Write};
 
@@ -48,15 +49,20 @@ impl<'n> Stream<'n> {
 
     /// Says what a refusal means, on standard error alone: where data is asked for, standard output has nothing else.
     pub fn explain(&self, refusal: Refusal) -> Status {
-        complain(format_args!("{}: {refusal}", self.called()));
+        self.note(refusal);
         self.hint();
         Status::Refused
+    }
+
+    /// Says something of this stream on standard error.
+    pub fn note(&self, note: impl Display) {
+        complain(format_args!("{}: {note}", self.called()));
     }
 
     /// What a refusal can't say: what kind of file this is, and how to come from it to a stream.
     pub fn hint(&self) {
         if let Some(hint) = hint::of(&self.bytes) {
-            complain(format_args!("{}: {hint}", self.called()));
+            self.note(hint);
         }
     }
 

@@ -3,11 +3,13 @@
 
 #![deny(unsafe_code)]
 
+mod address;
 mod arguments;
 mod check;
 mod commands;
 mod completions;
 mod correct;
+mod errors;
 mod export;
 mod help;
 mod hint;
@@ -23,6 +25,7 @@ mod replace;
 mod signals;
 mod text;
 mod value;
+mod wanted;
 
 use outcome::{Failure, Output};
 use std::ffi::OsString;

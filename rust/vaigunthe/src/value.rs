@@ -1,37 +1,47 @@
 //! The new value of a correction, as it is written on the command line.
 
+use crate::errors;
 use crate::outcome::Failure;
 use crate::text::Word;
 use station::NewValue;
 use std::ffi::OsStr;
 
-/// How a kind of value is read, and what its text must be.
+/// How a kind of value is read: the value, or what it must be.
 struct Kind {
     name: &'static str,
-    read: fn(&str) -> Option<NewValue>,
-    wanted: &'static str,
+    read: fn(&str) -> Result<NewValue, &'static str>,
 }
+
+/// The kind of a value that may also be given by its characters.
+pub const TEXT: &str = "text";
 
 const KINDS: [Kind; 4] = [
     Kind {
         name: "number",
-        read: |text| number(text).map(NewValue::Number),
-        wanted: "a decimal, or bits: and sixteen hex digits",
+        read: number,
     },
     Kind {
-        name: "text",
-        read: |text| decimal_digits(text)?.parse().ok().map(NewValue::Text),
-        wanted: "the index of a shared string",
+        name: TEXT,
+        read: |text| {
+            let index = decimal_digits(text).and_then(|digits| digits.parse().ok());
+            index
+                .map(NewValue::Text)
+                .ok_or("the index of a shared string, or --text and its characters")
+        },
     },
     Kind {
         name: "truth",
-        read: |text| truth(text).map(NewValue::Truth),
-        wanted: "true, false or a byte from 0 to 255",
+        read: |text| {
+            let wanted = "true, false or a byte from 0 to 255";
+            truth(text).map(NewValue::Truth).ok_or(wanted)
+        },
     },
     Kind {
         name: "error",
-        read: |text| hex_digits(text, 2).and_then(byte).map(NewValue::Error),
-        wanted: "a code of two hex digits",
+        read: |text| {
+            let wanted = "a name like #DIV/0!, or a code of two hex digits";
+            error(text).map(NewValue::Error).ok_or(wanted)
+        },
     },
 ];
 
@@ -42,21 +52,33 @@ pub fn read(kind: &OsStr, value: &OsStr) -> Result<NewValue, Failure> {
             "a value is a number, text, truth or error, not '{kind}'"
         )));
     };
-    value.to_str().and_then(kind.read).ok_or_else(|| {
-        let (name, wanted, value) = (kind.name, kind.wanted, Word(value));
+    let read = (kind.read)(value.to_str().unwrap_or("\0"));
+    read.map_err(|wanted| {
+        let (name, value) = (kind.name, Word(value));
         Failure::usage(format!("{name} takes {wanted}, not '{value}'"))
     })
 }
 
-/// A pattern of bits is passed on as it is, and a decimal that is too great as an infinity: it is for the library to refuse them.
-fn number(text: &str) -> Option<f64> {
-    match text.strip_prefix("bits:") {
+/// A pattern of bits is passed on as it is, and a decimal that is too great as an infinity: it is for the library to refuse them. A decimal that would become 0
+/// can't be passed on as what it is, and the library would grant it.
+fn number(text: &str) -> Result<NewValue, &'static str> {
+    let wanted = "a decimal, or bits: and sixteen hex digits";
+    let number = match text.strip_prefix("bits:") {
         Some(bits) => {
-            let bits = hex_digits(bits, 16)?;
-            u64::from_str_radix(bits, 16).ok().map(f64::from_bits)
+            let bits = hex_digits(bits, 16).and_then(|bits| u64::from_str_radix(bits, 16).ok());
+            bits.map(f64::from_bits).ok_or(wanted)?
         }
-        None => decimal(text)?.parse().ok(),
-    }
+        None => {
+            let number: f64 = decimal(text)
+                .and_then(|text| text.parse().ok())
+                .ok_or(wanted)?;
+            if number == 0.0 && !means_zero(text) {
+                return Err("no decimal that is so small that it would become 0");
+            }
+            number
+        }
+    };
+    Ok(NewValue::Number(number))
 }
 
 /// Keeps out the words for infinities and NaNs, which are no decimals.
@@ -65,16 +87,23 @@ fn decimal(text: &str) -> Option<&str> {
     Some(text).filter(|text| text.bytes().all(plain))
 }
 
+/// Whether all digits of a decimal before its exponent are 0.
+fn means_zero(text: &str) -> bool {
+    let digits = text.split(['e', 'E']).next().unwrap_or(text);
+    !digits.contains(|digit: char| ('1'..='9').contains(&digit))
+}
+
 fn truth(text: &str) -> Option<u8> {
-    match text {
+    match text.to_ascii_lowercase().as_str() {
         "false" => Some(0),
         "true" => Some(1),
         _ => decimal_digits(text)?.parse().ok(),
     }
 }
 
-fn byte(digits: &str) -> Option<u8> {
-    u8::from_str_radix(digits, 16).ok()
+fn error(text: &str) -> Option<u8> {
+    let byte = |digits| u8::from_str_radix(digits, 16).ok();
+    errors::code(text).or_else(|| hex_digits(text, 2).and_then(byte))
 }
 
 fn decimal_digits(text: &str) -> Option<&str> {

@@ -1,10 +1,12 @@
 //! correct: what it answers, and what the file then holds.
 
-use crate::made::{blank, error, number, one, text, units};
-use crate::tool::{case, finish, Folder, Ran, TOOL};
+use crate::made::{blank, book, error, number, one, text, units, Sheet, WORKSHEET};
+use crate::tool::{case, finish, run, run_with, Folder, Ran, TOOL};
+use crate::words;
 use second_reader::NewValue;
 use std::ffi::{OsStr, OsString};
 use std::fs;
+use std::os::unix::ffi::OsStrExt;
 use std::os::unix::fs::MetadataExt;
 use std::path::Path;
 use std::process::Command;
@@ -199,6 +201,23 @@ fn values() {
         ("0 2 0 error 07", NewValue::Error(0x07)),
         ("0 2 0 error 1d", NewValue::Error(0x1D)),
         ("0 2 0 error 00", NewValue::Error(0x00)),
+        ("0 2 0 truth TRUE", NewValue::Truth(1)),
+        ("0 2 0 truth False", NewValue::Truth(0)),
+        ("0 2 0 error #NULL!", NewValue::Error(0x00)),
+        ("0 2 0 error #DIV/0!", NewValue::Error(0x07)),
+        ("0 2 0 error #VALUE!", NewValue::Error(0x0F)),
+        ("0 2 0 error #REF!", NewValue::Error(0x17)),
+        ("0 2 0 error #name?", NewValue::Error(0x1D)),
+        ("0 2 0 error #NUM!", NewValue::Error(0x24)),
+        ("Sheet1 A1 number 72.5", NewValue::Number(72.5)),
+        ("name:Sheet1 a1 number 72.5", NewValue::Number(72.5)),
+        ("0 A2 text 1", NewValue::Text(1)),
+        ("0 A2 text --text one", NewValue::Text(1)),
+        ("0 1 0 text --text=one", NewValue::Text(1)),
+        ("0 A3 truth TRUE", NewValue::Truth(1)),
+        ("0 0 0 number 0e-999", NewValue::Number(0.0)),
+        ("0 0 0 number -0.000e5", NewValue::Number(-0.0)),
+        ("0 0 0 number 3e-324", NewValue::Number(f64::from_bits(1))),
     ];
     for (question, value) in granted {
         let mut call = ask(Command::new(TOOL), Path::new("-"), question, &to("-"));
@@ -215,6 +234,161 @@ fn values() {
         };
         assert_eq!(ran.out, sample_with(row, value), "{question}");
     }
+}
+
+/// A decimal is never made to 0 unless it is 0; one that is too great is for the library to refuse.
+#[test]
+fn decimals_that_are_too_small() {
+    let folder = Folder::new();
+    let file = folder.put("in", &sample());
+    let before = state(&file);
+    for small in [
+        "1e-400",
+        "-1e-400",
+        "2e-324",
+        "0.00000001e-320",
+        "5E-999999",
+    ] {
+        let question = format!("0 0 0 number {small}");
+        correct(&file, &question, &in_place()).fails("so small that it would become 0");
+    }
+    assert_eq!(state(&file), before);
+}
+
+/// Three sheets with a number in A1 each: two names that look like numbers, and one that looks like a prefix.
+fn named() -> Vec<u8> {
+    let sheet = |name: &str| Sheet {
+        kind: WORKSHEET,
+        name: units(name),
+        records: vec![number(0, 0, 1.0)],
+    };
+    let names = ["2003", "0", "name:x", "Größe 2", "2003"];
+    book(&[], &names.map(sheet))
+}
+
+#[test]
+fn sheets_by_name() {
+    let asked = [
+        ("0", 0),
+        ("1", 1),
+        ("name:2003", 0),
+        ("name:0", 1),
+        ("name:name:x", 2),
+        ("Größe 2", 3),
+        ("name:Größe 2", 3),
+        ("4", 4),
+    ];
+    for (sheet, number) in asked {
+        let mut wanted = named();
+        let value = NewValue::Number(7.0);
+        second_reader::correct(&mut wanted, number, 0, 0, value).expect("granted");
+        let words = ["correct", "-", sheet, "A1", "number", "7", "--output", "-"];
+        let ran = run_with(&words, &named());
+        assert_eq!(
+            (ran.status, &ran.err[..]),
+            (Some(0), "granted\n"),
+            "{sheet}"
+        );
+        assert_eq!(ran.out, wanted, "{sheet}");
+    }
+}
+
+#[test]
+fn sheets_that_are_not_there() {
+    let folder = Folder::new();
+    let file = folder.put("in", &named());
+    let before = state(&file);
+    let asked = [
+        ("5", "there are 5 sheets, counted from 0\n"),
+        (
+            "2003",
+            "there are 5 sheets, counted from 0; the name 2003 is that of sheet 0: name:2003\n",
+        ),
+        (
+            "größe 2",
+            "no sheet is named 'größe 2'; did you mean 'Größe 2'?\n",
+        ),
+        ("x", "no sheet is named 'x'\n"),
+        ("name:x", "no sheet is named 'x'\n"),
+        ("-1", "no sheet is named '-1'\n"),
+    ];
+    for (sheet, note) in asked {
+        let words = words!["correct", file, sheet, "A1", "number", "7", "--in-place"];
+        let ran = run(words);
+        ran.refuses("refused 11 at 0");
+        assert!(ran.err.ends_with(note), "{}", ran.err);
+        assert_eq!(ran.err.lines().count(), 2, "{}", ran.err);
+    }
+    // The sheet is there, and the cell is not.
+    let ran = run(words![
+        "correct",
+        file,
+        "0",
+        "B1",
+        "number",
+        "7",
+        "--in-place"
+    ]);
+    ran.refuses("refused 11 at 0");
+    assert_eq!(ran.err.lines().count(), 1, "{}", ran.err);
+    assert_eq!(state(&file), before);
+}
+
+/// The first of several, with exactly these characters; none is ever added.
+#[test]
+fn texts_by_their_characters() {
+    let strings = ["a", "zwei", "A", "zwei", "", "a b", "Größe 😀"].map(units);
+    let stream = one(&strings, vec![text(0, 0, 0), number(1, 0, 1.0)]);
+    let call = |cell: &str, text: &str, target: &[OsString]| {
+        let mut command = Command::new(TOOL);
+        command.args(["correct", "-", "0", cell, "text", "--text", text]);
+        finish(command.args(target), &stream)
+    };
+    for (text, index) in [("zwei", 1), ("A", 2), ("", 4), ("a b", 5), ("Größe 😀", 6)] {
+        let mut wanted = stream.clone();
+        second_reader::correct(&mut wanted, 0, 0, 0, NewValue::Text(index)).expect("granted");
+        let ran = call("A1", text, &to("-"));
+        assert_eq!((ran.status, &ran.err[..]), (Some(0), "granted\n"), "{text}");
+        assert_eq!(ran.out, wanted, "{text}");
+    }
+    let folder = Folder::new();
+    let old = folder.put("old", b"old");
+    for (cell, text, refusal) in [
+        ("A1", "drei", "refused 18 at 0"),
+        ("A1", "zwei ", "refused 18 at 0"),
+        ("A2", "drei", "refused 17 at 0"),
+        ("A3", "drei", "refused 11 at 0"),
+    ] {
+        for target in [to(folder.at("new")), to(&old)] {
+            let ran = call(cell, text, &target);
+            ran.refuses(refusal);
+            let note = format!("no shared string is '{text}', and a correction can't add one\n");
+            assert!(ran.err.ends_with(&note), "{}", ran.err);
+        }
+    }
+    assert_eq!(folder.names(), ["old"]);
+    assert_holds(&old, b"old");
+    let wrong: [(&str, &str); 3] = [
+        ("0 A1 number --text a", "--text goes with the kind text"),
+        ("0 A1 text 1 --text a", "one of them is the value"),
+        ("0 A1 --text a", "KIND is missing"),
+    ];
+    let file = folder.put("in", &stream);
+    for (question, message) in wrong {
+        correct(&file, question, &in_place()).fails(message);
+    }
+    let words = words![
+        "correct",
+        file,
+        "0",
+        "A1",
+        "text",
+        "--text",
+        OsStr::from_bytes(b"\xFF"),
+        "--in-place"
+    ];
+    run(words).fails("--text takes UTF-8");
+    assert_holds(&file, &stream);
 }
 
 #[test]
@@ -236,8 +410,8 @@ fn what_is_no_value() {
             ],
         ),
         ("text", &["-1", "+1", "x", "", "4294967296", "1.0"]),
-        ("truth", &["256", "yes", "TRUE", "", "-1"]),
-        ("error", &["7", "007", "#N/A", "", "+7", "0G"]),
+        ("truth", &["256", "yes", "TRUEE", "", "-1"]),
+        ("error", &["7", "007", "#N/A!", "N/A", "", "+7", "0G"]),
     ];
     for (kind, values) in wrong {
         for value in values {
@@ -246,11 +420,21 @@ fn what_is_no_value() {
         }
     }
     correct(&file, "0 0 0 colour 1", &in_place()).fails("'colour'");
-    for wrong in ["x", "-1", "4294967296", ""] {
+    for wrong in ["4294967296", ""] {
         correct(&file, &format!("{wrong} 0 0 number 1"), &in_place()).fails("SHEET is");
+    }
+    for wrong in ["-1", "4294967296", ""] {
         correct(&file, &format!("0 {wrong} 0 number 1"), &in_place()).fails("ROW is");
         correct(&file, &format!("0 0 {wrong} number 1"), &in_place()).fails("COLUMN is");
     }
+    for wrong in ["x", "A", "A0", "A1B", "AA-1", "A4294967296"] {
+        correct(&file, &format!("0 {wrong} number 1"), &in_place()).fails("CELL is");
+    }
+    correct(&file, "0 A1 number 1 2", &in_place()).fails("'2' is one too many");
+    correct(&file, "0 A1 number", &in_place()).fails("VALUE is missing");
+    correct(&file, "0 0 0", &in_place()).fails("KIND is missing");
+    correct(&file, "0 A1", &in_place()).fails("KIND is missing");
+    correct(&file, "0 0", &in_place()).fails("KIND is missing");
     assert_eq!(state(&file), before);
 }
 
