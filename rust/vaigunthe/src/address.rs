@@ -3,6 +3,7 @@
 use crate::arguments::{missing, whole};
 use crate::outcome::Failure;
 use crate::text::Word;
+use station::Cell;
 use std::ffi::{OsStr, OsString};
 use std::fmt::{self, Display, Formatter};
 
@@ -14,6 +15,13 @@ pub struct Address {
 }
 
 impl Address {
+    pub fn of(cell: &Cell) -> Self {
+        Address {
+            row: cell.row().into(),
+            column: cell.column().into(),
+        }
+    }
+
     /// The address that the words start with, B12 or a row and a column, and the words after it.
     pub fn take(words: &[OsString]) -> Result<(Self, &[OsString]), Failure> {
         let starts_with_letter = |word: &OsStr| {

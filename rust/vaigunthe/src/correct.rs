@@ -221,7 +221,7 @@ fn to_file(
         return refuse(&stream, question, refusal, out);
     }
     place
-        .put(|out| out.write_all(&stream.bytes))
+        .put(true, |out| out.write_all(&stream.bytes))
         .map_err(|error| Failure::of_file(name, &error))?;
     // The file is replaced by now, so this can no longer be a failure.
     if let Err(error) = place.sync_folder() {

@@ -1,45 +1,119 @@
-//! export: the cells of a workbook with their texts, as CSV or JSON.
+//! export: the cells of a workbook with their texts, cell by cell as CSV or JSON, or as the grid that a sheet is.
 
+mod book;
 mod csv;
+mod folder;
+mod grid;
 mod json;
 mod number;
 mod strings;
 
 use crate::arguments::{Arguments, Operands, Setting};
 use crate::commands::Command;
-use crate::errors;
-use crate::input::Stream;
+use crate::input::{Stream, STANDARD};
 use crate::outcome::{Failure, Output, Status};
-use station::{Cell, FormulaResult, Refusal, Sheet, Value, Workbook};
-use strings::SharedStrings;
+use crate::replace::Place;
+use crate::wanted::Wanted;
+use book::Book;
+use std::ffi::OsStr;
+use std::io::{self, Write};
+use std::path::Path;
 
 pub const EXPORT: Command = Command {
     name: "export",
-    about: "write the cells with their texts as CSV or JSON",
-    usage: &["FILE --csv|--json [--sheet N]"],
+    about: "write the cells with their texts, as a table or cell by cell",
+    usage: &[
+        "FILE --grid [--sheet SHEET] [--output OUT]",
+        "FILE --grid --output-dir DIR",
+        "FILE --csv|--json [--sheet SHEET] [--output OUT]",
+    ],
     operands: Operands::Each(&["FILE"]),
     words: &[],
     options: &[
-        Setting::alone("--csv", "a header, and then a line for each cell: sheet,sheet_name,row,column,kind,value"),
-        Setting::alone("--json", "an object with the sheets, each with number, name, type, rows and cells; a cell has row, column, kind, value and, where it is a formula, its tokens in hex"),
-        Setting::with("--sheet", "N", "only this sheet"),
+        Setting::alone(
+            "--grid",
+            "a CSV with the rows and columns of the sheet, from A1 on, as far as there are values",
+        ),
+        Setting::alone(
+            "--csv",
+            "a CSV with a line for each cell, after a header: sheet,sheet_name,row,column,kind,value",
+        ),
+        Setting::alone(
+            "--json",
+            "an object with the sheets, each with number, name, type, rows and cells; a cell has row, column, kind, value and, where it is a formula, its tokens in hex",
+        ),
+        Setting::with(
+            "--sheet",
+            "SHEET",
+            "only this sheet, by its number from 0 or its name; digits are always a number, and a name that looks like one is written name:2003",
+        ),
+        Setting::with(
+            "--output",
+            "OUT",
+            "write to this file, whole or not at all; - is standard output",
+        ),
+        Setting::with(
+            "--output-dir",
+            "DIR",
+            "with --grid: a file for each worksheet in this folder, which is made where it isn't there; the file of sheet 0, Data, is 0-Data.csv",
+        ),
+        Setting::alone(
+            "--no-blanks",
+            "with --csv and --json: leave out cells without a value",
+        ),
+        Setting::alone(
+            "--a1",
+            "with --csv and --json: give addresses like B12, as cell, in the place of row and column",
+        ),
+        Setting::alone(
+            "--bom",
+            "with --csv and --grid: start with a byte order mark, by which Excel knows UTF-8",
+        ),
     ],
     examples: &[
-        ("vaigunthe export session.bin --csv > session.csv", "all cells"),
+        (
+            "vaigunthe export session.bin --grid > session.csv",
+            "the one worksheet as a table",
+        ),
+        (
+            "vaigunthe export session.bin --grid --sheet Sheet1 --output one.csv",
+            "one sheet of several",
+        ),
+        (
+            "vaigunthe export session.bin --grid --output-dir tables",
+            "all worksheets, a file for each",
+        ),
+        (
+            "vaigunthe export session.bin --csv --a1 --no-blanks",
+            "a line for each value, with its address and kind",
+        ),
+        (
+            "vaigunthe export session.bin --json --output session.json",
+            "everything, formulas too",
+        ),
     ],
     details: "\
-One of --csv and --json is needed. The kinds of cells, with their values:
-  blank            none
+Cell by cell, each cell has a kind, and a formula is told apart by it:
+  blank            no value
   number           the shortest decimal that reads back to the same 64 bits;
                    an infinity or a NaN is its bits, bits:7FF8000000000000
   text             the shared string
   truth            true or false
   error            #NULL! #DIV/0! #VALUE! #REF! #NAME? #NUM! #N/A
   formula number, formula truth, formula error
-                   the stored result, as above
-  formula text     none: the text is not in the formula's record
-  formula empty    an empty text
-No value is an empty field in CSV and null in JSON. Cells come in stream order.
+                   a formula, and its stored result as above
+  formula text     a formula, and no value: the text is not in its record
+  formula empty    a formula, and an empty text
+No value is an empty field in CSV and null in JSON. Cells come in stream order,
+all that the stream has, also several at one address.
+
+In a grid a formula is its stored result, and the last listed of several cells
+at one address counts. A grid has as many fields in each line as its widest row
+needs; blanks add none. Without --sheet the workbook must have one worksheet.
+All grids of one workbook may have 268,435,456 fields together.
+
+In names of files all but letters, digits, spaces and -_. becomes _; the number
+in front keeps them apart. FILE itself is never written over.
 
 CSV is as RFC 4180 has it, lines ending with CR LF, in UTF-8. Control characters
 other than tab, CR and LF, separators, characters that turn the direction of
@@ -49,91 +123,131 @@ one of these, or the text u{, comes right after it. JSON has \\u0085 and \\uD800
     run,
 };
 
+/// How cells are listed one by one.
+#[derive(Clone, Copy)]
+struct Listing {
+    blanks: bool,
+    /// Addresses like B12.
+    letters: bool,
+}
+
+/// What is written.
+enum Form {
+    Csv(Listing),
+    Json(Listing),
+    Grid,
+}
+
+impl Form {
+    fn of(arguments: &Arguments) -> Result<Self, Failure> {
+        let listing = Listing {
+            blanks: !arguments.has("--no-blanks"),
+            letters: arguments.has("--a1"),
+        };
+        let asked = ["--csv", "--json", "--grid"].map(|name| arguments.has(name));
+        let (form, misplaced) = match asked {
+            [true, false, false] => (Form::Csv(listing), &["--output-dir"][..]),
+            [false, true, false] => (Form::Json(listing), &["--output-dir", "--bom"][..]),
+            [false, false, true] => (Form::Grid, &["--no-blanks", "--a1"][..]),
+            _ => {
+                let message = "one of --grid, --csv and --json is needed";
+                return Err(Failure::usage(message));
+            }
+        };
+        match misplaced.iter().find(|name| arguments.has(name)) {
+            Some(name) => Err(Failure::usage(format!("{name} doesn't go with this form"))),
+            None => Ok(form),
+        }
+    }
+
+    fn write<W: Write>(&self, book: &Book<'_>, out: &mut W) -> io::Result<()> {
+        match self {
+            Form::Csv(listing) => csv::write(book, *listing, out),
+            Form::Json(listing) => json::write(book, *listing, out),
+            Form::Grid => {
+                let sheets = book.sheets().map(|(_, sheet)| sheet);
+                sheets
+                    .take(1)
+                    .try_for_each(|sheet| grid::Grid::of(book, &sheet).write(out))
+            }
+        }
+    }
+}
+
+/// Where it goes.
+enum Target<'a> {
+    Output,
+    File(&'a OsStr),
+    Folder(&'a OsStr),
+}
+
+impl<'a> Target<'a> {
+    fn of(arguments: &'a Arguments) -> Result<Self, Failure> {
+        let (file, folder) = (
+            arguments.option("--output"),
+            arguments.option("--output-dir"),
+        );
+        match (file, folder) {
+            (Some(_), Some(_)) => Err(Failure::usage("--output and --output-dir: one is enough")),
+            (_, Some(_)) if arguments.has("--sheet") => Err(Failure::usage(
+                "--output-dir is for all sheets: with --sheet use --output",
+            )),
+            (None, Some(folder)) => Ok(Target::Folder(folder)),
+            (Some(name), None) if name != STANDARD => Ok(Target::File(name)),
+            (_, None) => Ok(Target::Output),
+        }
+    }
+}
+
+/// What a CSV starts with for readers that would else take it for another encoding.
+const MARK: &str = "\u{FEFF}";
+
 fn run(arguments: &Arguments, out: &mut Output) -> Result<Status, Failure> {
-    let write = match (arguments.has("--csv"), arguments.has("--json")) {
-        (true, false) => csv::write,
-        (false, true) => json::write,
-        _ => return Err(Failure::usage("one of --csv and --json is needed")),
-    };
-    let only = arguments.number_option("--sheet")?;
+    let form = Form::of(arguments)?;
+    let target = Target::of(arguments)?;
+    let mark = if arguments.has("--bom") { MARK } else { "" };
+    let only = arguments.option("--sheet");
+    let only = only.map(|word| Wanted::read("--sheet", word)).transpose()?;
     let stream = Stream::read(arguments.operand(0))?;
-    match Book::read(&stream.bytes, only) {
-        Ok(book) => {
-            write(&book, out)?;
-            Ok(Status::Answered)
-        }
-        Err(refusal) => Ok(stream.explain(refusal)),
-    }
-}
-
-/// A workbook with its strings at hand.
-struct Book<'a> {
-    stream: &'a [u8],
-    workbook: Workbook<'a>,
-    strings: SharedStrings,
-    /// The one sheet that is asked for, where not all are.
-    only: Option<u32>,
-}
-
-impl<'a> Book<'a> {
-    fn read(stream: &'a [u8], only: Option<u32>) -> Result<Self, Refusal> {
-        let workbook = station::check(stream)?;
-        if let Some(number) = only {
-            station::cells(stream, number)?;
-        }
-        Ok(Book {
-            stream,
-            workbook,
-            strings: SharedStrings::of(&workbook),
-            only,
-        })
-    }
-
-    /// The sheets that are asked for, with their numbers.
-    fn sheets(&self) -> impl Iterator<Item = (usize, Sheet<'a>)> {
-        let only = self.only.map(|number| number as usize);
-        let asked = move |number: usize| only.is_none_or(|only| only == number);
-        self.workbook
-            .sheets()
-            .enumerate()
-            .filter(move |(number, _)| asked(*number))
-    }
-
-    /// The kind of a cell, and what it shows.
-    fn shown(&self, cell: &Cell) -> (&'static str, Shown<'_>) {
-        match cell.value() {
-            Value::Blank => ("blank", Shown::Nothing),
-            Value::Number(bits) => ("number", Shown::Number(bits)),
-            Value::Text(index) => ("text", Shown::Text(self.strings.get(index))),
-            Value::Truth(truth) => ("truth", Shown::Truth(truth != 0)),
-            Value::Error(code) => ("error", Shown::Error(errors::name(code))),
-            Value::Formula(FormulaResult::Number(bits)) => ("formula number", Shown::Number(bits)),
-            Value::Formula(FormulaResult::Text) => ("formula text", Shown::Nothing),
-            Value::Formula(FormulaResult::Truth(truth)) => {
-                ("formula truth", Shown::Truth(truth != 0))
+    let mut book = match Book::read(&stream.bytes, only.as_ref()) {
+        Ok(book) => book,
+        Err(refusal) => {
+            let status = stream.explain(refusal);
+            let workbook = station::check(&stream.bytes).ok();
+            if let Some(note) = workbook
+                .zip(only)
+                .and_then(|(workbook, only)| only.note(&workbook))
+            {
+                stream.note(note);
             }
-            Value::Formula(FormulaResult::Error(code)) => {
-                ("formula error", Shown::Error(errors::name(code)))
+            return Ok(status);
+        }
+    };
+    if let (Form::Grid, Target::Output | Target::File(_)) = (&form, &target) {
+        book.one_worksheet()
+            .map_err(|message| stream.failure(message))?;
+    }
+    match target {
+        Target::Output => {
+            out.write_all(mark.as_bytes())?;
+            form.write(&book, out)?;
+        }
+        Target::File(name) => {
+            let failed = |error: io::Error| Failure::of_file(name, &error);
+            let place = Place::of(Path::new(name)).map_err(failed)?;
+            if stream.path().is_some_and(|read| place.replaces(read)) {
+                return Err(stream.failure("this is what is read: it is not written over"));
             }
-            Value::Formula(FormulaResult::Empty) => ("formula empty", Shown::Text(&[])),
+            let written = place.put(false, |out| {
+                out.write_all(mark.as_bytes())?;
+                form.write(&book, out)
+            });
+            written.map_err(failed)?;
         }
+        Target::Folder(name) => folder::write(&book, &stream, mark, name)?,
     }
-
-    /// The token bytes of a formula cell.
-    fn tokens(&self, cell: &Cell) -> Option<&'a [u8]> {
-        match cell.value() {
-            Value::Formula(_) => self.stream.get(cell.tokens()),
-            _ => None,
-        }
+    if let Form::Grid = form {
+        book.tell_unread(&stream);
     }
-}
-
-/// What a cell shows.
-enum Shown<'a> {
-    /// A blank, or the text of a formula, which its record doesn't hold.
-    Nothing,
-    Number(u64),
-    Text(&'a [u16]),
-    Truth(bool),
-    Error(&'static str),
+    Ok(Status::Answered)
 }

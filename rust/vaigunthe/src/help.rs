@@ -26,12 +26,12 @@ const FIRST_STEPS: [(&str, &str); 6] = [
     ),
     ("vaigunthe sheets session.bin", "its sheets"),
     (
-        "vaigunthe export session.bin --csv > session.csv",
-        "all cells with their values",
+        "vaigunthe export session.bin --grid > session.csv",
+        "its one worksheet as a table",
     ),
     (
-        "vaigunthe correct session.bin 0 0 1 number 72.5 --in-place",
-        "give one cell a new value",
+        "vaigunthe correct session.bin 0 B1 number 72.5 --in-place",
+        "give one cell of the first sheet a new value",
     ),
     ("vaigunthe help export", "all about one command"),
 ];

@@ -8,6 +8,7 @@ use std::ffi::OsStr;
 use std::fmt::Display;
 use std::fs::File;
 use std::io::{self, Read, Write};
+use std::path::Path;
 
 /// The word for standard input, and for standard output where something is written.
 pub const STANDARD: &str = "-";
@@ -52,6 +53,16 @@ impl<'n> Stream<'n> {
         self.note(refusal);
         self.hint();
         Status::Refused
+    }
+
+    /// The path that it was read from.
+    pub fn path(&self) -> Option<&'n Path> {
+        (self.name != STANDARD).then_some(Path::new(self.name))
+    }
+
+    /// Why it can't be done with this stream.
+    pub fn failure(&self, message: impl Display) -> Failure {
+        Failure::File(format!("{}: {message}", self.called()))
     }
 
     /// Says something of this stream on standard error.

@@ -17,7 +17,7 @@ pub struct Place {
 struct Held {
     found: Metadata,
     /// Open, and so locked.
-    _file: File,
+    file: File,
 }
 
 impl Place {
@@ -37,6 +37,15 @@ impl Place {
         }
     }
 
+    /// A name in a folder. A link of that name is itself replaced: what is put there is nowhere else.
+    pub fn within(folder: &Path, name: &str) -> io::Result<Self> {
+        loop {
+            if let Some(place) = Self::at(folder.join(name))? {
+                return Ok(place);
+            }
+        }
+    }
+
     /// None where somebody else was quicker. Only a file is replaced: to put one in the place of a folder or a device would destroy it. It is opened for
     /// writing: one that is write-protected stays as it is.
     fn at(path: PathBuf) -> io::Result<Option<Self>> {
@@ -50,7 +59,7 @@ impl Place {
                 if !is_at(&file, &path) {
                     return Ok(None);
                 }
-                Some(Held { found, _file: file })
+                Some(Held { found, file })
             }
             Err(error) if error.kind() == ErrorKind::NotFound => None,
             Err(error) => return Err(error),
@@ -58,8 +67,18 @@ impl Place {
         Ok(Some(Place { path, old }))
     }
 
-    /// Puts there what is written. The new file has the permissions and, as far as the system allows it, the owner of the old one.
-    pub fn put(&self, write: impl FnOnce(&mut dyn Write) -> io::Result<()>) -> io::Result<()> {
+    /// Whether what this path leads to is the file that will be replaced.
+    pub fn replaces(&self, path: &Path) -> bool {
+        let held = self.old.as_ref();
+        held.is_some_and(|old| is_at(&old.file, path))
+    }
+
+    /// Puts there what is written, so that it lasts over a power cut where that is asked for. The new file has the permissions and, as far as the system allows it, the owner of the old one.
+    pub fn put(
+        &self,
+        lasting: bool,
+        write: impl FnOnce(&mut BufWriter<&File>) -> io::Result<()>,
+    ) -> io::Result<()> {
         let new = Temporary::beside(&self.path, self.old.is_some())?;
         if let Some(old) = &self.old {
             new.take_after(&old.found)?;
@@ -68,7 +87,9 @@ impl Place {
         write(&mut out)?;
         out.flush()?;
         drop(out);
-        new.file.sync_all()?;
+        if lasting {
+            new.file.sync_all()?;
+        }
         new.rename(&self.path)
     }
 

@@ -1,34 +1,51 @@
-//! CSV by RFC 4180: a header, and a line for each cell.
+//! CSV by RFC 4180, cell by cell: a header, and a line for each.
 
+use super::book::{Book, Shown};
 use super::number::Number;
-use super::{Book, Shown};
-use crate::outcome::Output;
+use super::Listing;
+use crate::address::Address;
 use crate::text::InCsv;
 use std::io::{self, Write};
 
-pub fn write(book: &Book<'_>, out: &mut Output) -> io::Result<()> {
-    write!(out, "sheet,sheet_name,row,column,kind,value\r\n")?;
+pub fn write<W: Write>(book: &Book<'_>, listing: Listing, out: &mut W) -> io::Result<()> {
+    let address = if listing.letters {
+        "cell"
+    } else {
+        "row,column"
+    };
+    write!(out, "sheet,sheet_name,{address},kind,value\r\n")?;
     for (number, sheet) in book.sheets() {
         let name = field(&sheet.name_units().collect::<Vec<_>>());
         for cell in sheet.cells() {
-            let (kind, shown) = book.shown(&cell);
-            write!(
-                out,
-                "{number},{name},{},{},{kind},",
-                cell.row(),
-                cell.column()
-            )?;
-            match shown {
-                Shown::Nothing => {}
-                Shown::Number(bits) => write!(out, "{}", Number(bits))?,
-                Shown::Text(units) => out.write_all(field(units).as_bytes())?,
-                Shown::Truth(truth) => write!(out, "{truth}")?,
-                Shown::Error(name) => out.write_all(name.as_bytes())?,
+            if cell.is_blank() && !listing.blanks {
+                continue;
             }
+            let (kind, shown) = book.shown(cell.value());
+            match listing.letters {
+                true => write!(out, "{number},{name},{},{kind},", Address::of(&cell))?,
+                false => write!(
+                    out,
+                    "{number},{name},{},{},{kind},",
+                    cell.row(),
+                    cell.column()
+                )?,
+            }
+            write_shown(&shown, out)?;
             out.write_all(b"\r\n")?;
         }
     }
     Ok(())
+}
+
+/// What a cell shows, as a field.
+pub fn write_shown<W: Write>(shown: &Shown<'_>, out: &mut W) -> io::Result<()> {
+    match *shown {
+        Shown::Nothing => Ok(()),
+        Shown::Number(bits) => write!(out, "{}", Number(bits)),
+        Shown::Text(units) => out.write_all(field(units).as_bytes()),
+        Shown::Truth(truth) => write!(out, "{truth}"),
+        Shown::Error(name) => out.write_all(name.as_bytes()),
+    }
 }
 
 /// Text as a field, in quotes where it needs them.

@@ -1,29 +1,30 @@
 //! JSON: one object with the sheets, and a line for each cell.
 
+use super::book::{Book, Shown};
 use super::number::Number;
-use super::{Book, Shown};
+use super::Listing;
+use crate::address::Address;
 use crate::lines::type_name;
-use crate::outcome::Output;
 use crate::text::InJson;
 use station::{Cell, Sheet};
 use std::io::{self, Write};
 
-pub fn write(book: &Book<'_>, out: &mut Output) -> io::Result<()> {
+pub fn write<W: Write>(book: &Book<'_>, listing: Listing, out: &mut W) -> io::Result<()> {
     write!(out, "{{\"sheets\":[")?;
     let mut separator = "\n";
     for (number, sheet) in book.sheets() {
         write!(out, "{separator}")?;
-        write_sheet(book, number, &sheet, out)?;
+        write_sheet(book, listing, (number, &sheet), out)?;
         separator = ",\n";
     }
     writeln!(out, "\n]}}")
 }
 
-fn write_sheet(
+fn write_sheet<W: Write>(
     book: &Book<'_>,
-    number: usize,
-    sheet: &Sheet<'_>,
-    out: &mut Output,
+    listing: Listing,
+    (number, sheet): (usize, &Sheet<'_>),
+    out: &mut W,
 ) -> io::Result<()> {
     write!(
         out,
@@ -34,20 +35,31 @@ fn write_sheet(
     )?;
     let mut separator = "\n";
     for cell in sheet.cells() {
+        if cell.is_blank() && !listing.blanks {
+            continue;
+        }
         write!(out, "{separator}")?;
-        write_cell(book, &cell, out)?;
+        write_cell(book, listing, &cell, out)?;
         separator = ",\n";
     }
     write!(out, "\n]}}")
 }
 
-fn write_cell(book: &Book<'_>, cell: &Cell, out: &mut Output) -> io::Result<()> {
-    let (kind, shown) = book.shown(cell);
-    let (row, column) = (cell.row(), cell.column());
-    write!(
-        out,
-        "{{\"row\":{row},\"column\":{column},\"kind\":\"{kind}\",\"value\":"
-    )?;
+fn write_cell<W: Write>(
+    book: &Book<'_>,
+    listing: Listing,
+    cell: &Cell,
+    out: &mut W,
+) -> io::Result<()> {
+    let (kind, shown) = book.shown(cell.value());
+    match listing.letters {
+        true => write!(out, "{{\"cell\":\"{}\"", Address::of(cell))?,
+        false => {
+            let (row, column) = (cell.row(), cell.column());
+            write!(out, "{{\"row\":{row},\"column\":{column}")?;
+        }
+    }
+    write!(out, ",\"kind\":\"{kind}\",\"value\":")?;
     write_value(&shown, out)?;
     if let Some(tokens) = book.tokens(cell) {
         write!(out, ",\"tokens\":\"")?;
@@ -59,7 +71,7 @@ fn write_cell(book: &Book<'_>, cell: &Cell, out: &mut Output) -> io::Result<()> 
     write!(out, "}}")
 }
 
-fn write_value(shown: &Shown<'_>, out: &mut Output) -> io::Result<()> {
+fn write_value<W: Write>(shown: &Shown<'_>, out: &mut W) -> io::Result<()> {
     match *shown {
         Shown::Nothing => write!(out, "null"),
         Shown::Number(bits) if Number(bits).is_decimal() => write!(out, "{}", Number(bits)),

@@ -5,12 +5,13 @@ use crate::parse::{csv, json, unescape_field, Json};
 use crate::tool::{case, run, run_with};
 use crate::words;
 use second_reader::{Cell, FormulaResult, Reading, Value};
+use std::ffi::OsString;
 
 const HEADER: &str = "sheet,sheet_name,row,column,kind,value\r\n";
 
 /// The kind of a cell, and what it shows.
 #[derive(Debug, PartialEq)]
-enum Shown {
+pub enum Shown {
     Nothing,
     Number(u64),
     Text(Vec<u16>),
@@ -31,7 +32,7 @@ fn error_name(code: u8) -> &'static str {
     NAMES.iter().find(|name| name.0 == code).expect("a name").1
 }
 
-fn shown(reading: &Reading, value: Value) -> (String, Shown) {
+pub fn shown(reading: &Reading, value: Value) -> (String, Shown) {
     let (kind, shown) = match value {
         Value::Blank => ("blank", Shown::Nothing),
         Value::Number(bits) => ("number", Shown::Number(bits)),
@@ -82,7 +83,7 @@ fn bits_of(text: &str) -> u64 {
     }
 }
 
-fn assert_field(field: &str, shown: &Shown) {
+pub fn assert_field(field: &str, shown: &Shown) {
     match shown {
         Shown::Nothing => assert_eq!(field, ""),
         Shown::Number(bits) => assert_eq!(bits_of(field), *bits, "{field}"),
@@ -225,7 +226,24 @@ fn one_format_is_needed() {
     run(words!["export", file, "--csv", "--csv"]).fails("twice");
     run(words!["export", file, "--csv=yes"]).fails("no value");
     run(words!["export", file, "--csv", "--sheet"]).fails("--sheet needs");
-    run(words!["export", file, "--csv", "--sheet", "one"]).fails("--sheet");
+    run(words!["export", file, "--csv", "--sheet", ""]).fails("--sheet");
+    let misplaced: [(&str, &str); 7] = [
+        ("--grid --a1", "--a1 doesn't go"),
+        ("--grid --no-blanks", "--no-blanks doesn't go"),
+        ("--json --bom", "--bom doesn't go"),
+        ("--csv --output-dir d", "--output-dir doesn't go"),
+        ("--json --output-dir d", "--output-dir doesn't go"),
+        (
+            "--grid --output-dir d --sheet 0",
+            "with --sheet use --output",
+        ),
+        ("--grid --output-dir d --output f", "one is enough"),
+    ];
+    for (options, message) in misplaced {
+        let mut words = vec!["export".into(), file.clone().into_os_string()];
+        words.extend(options.split(' ').map(OsString::from));
+        run(&words).fails(message);
+    }
 }
 
 /// The decimal is the shortest one, and no bit is lost.
@@ -358,5 +376,81 @@ fn stored_cases() {
         assert_csv(ran.text(), &stream, &reading, &all);
         let ran = run(words!["export", case(name), "--json"]);
         assert_json_book(ran.text(), &stream, &reading, &all);
+    }
+}
+
+/// Addresses and blanks, as they are asked for.
+#[test]
+fn addresses_in_letters_and_no_blanks() {
+    let records = vec![
+        made::blank(0, 0),
+        made::number(11, 1, 1.5),
+        made::blank(12, 255),
+        made::error(65_535, 255, 0x07),
+    ];
+    let stream = made::one(&[], records);
+    let csv = |options: &[&str], lines: &str| {
+        let words = [&["export", "-", "--csv"], options].concat();
+        run_with(&words, &stream).says(0, &lines.replace('\n', "\r\n"));
+    };
+    csv(
+        &["--a1"],
+        "sheet,sheet_name,cell,kind,value\n0,Sheet1,A1,blank,\n0,Sheet1,B12,number,1.5\n\
+         0,Sheet1,IV13,blank,\n0,Sheet1,IV65536,error,#DIV/0!\n",
+    );
+    csv(
+        &["--no-blanks"],
+        "sheet,sheet_name,row,column,kind,value\n0,Sheet1,11,1,number,1.5\n\
+         0,Sheet1,65535,255,error,#DIV/0!\n",
+    );
+    csv(
+        &["--bom", "--a1", "--no-blanks"],
+        "\u{FEFF}sheet,sheet_name,cell,kind,value\n0,Sheet1,B12,number,1.5\n\
+         0,Sheet1,IV65536,error,#DIV/0!\n",
+    );
+    let ran = run_with(&["export", "-", "--json", "--a1", "--no-blanks"], &stream);
+    assert_eq!((ran.status, &ran.err[..]), (Some(0), ""));
+    let book = json(ran.text());
+    let cells = book.get("sheets").list()[0].get("cells").list();
+    let addresses: Vec<_> = cells.iter().map(|cell| cell.get("cell").text()).collect();
+    assert_eq!(addresses, ["B12", "IV65536"]);
+    assert_eq!(cells[0].names(), ["cell", "kind", "value"]);
+}
+
+#[test]
+fn a_sheet_by_its_name() {
+    let sheet = |name: &str, value: f64| Sheet {
+        kind: made::WORKSHEET,
+        name: units(name),
+        records: vec![made::number(0, 0, value)],
+    };
+    let stream = made::book(
+        &[],
+        &[sheet("2003", 1.0), sheet("Data", 2.0), sheet("0", 3.0)],
+    );
+    for (word, number) in [
+        ("Data", 1),
+        ("name:2003", 0),
+        ("2", 2),
+        ("0", 0),
+        ("name:0", 2),
+    ] {
+        let ran = run_with(&["export", "-", "--csv", "--sheet", word], &stream);
+        let line = csv(ran.text())[1].clone();
+        assert_eq!(line[0], number.to_string(), "{word}");
+        let ran = run_with(&["export", "-", "--grid", "--sheet", word], &stream);
+        ran.says(0, &format!("{}\r\n", number + 1));
+    }
+    for form in ["--csv", "--json", "--grid"] {
+        let ran = run_with(&["export", "-", form, "--sheet", "data"], &stream);
+        ran.refuses_data("refused 11 at 0");
+        assert!(ran
+            .err
+            .ends_with("no sheet is named 'data'; did you mean 'Data'?\n"));
+        let ran = run_with(&["export", "-", form, "--sheet", "2003"], &stream);
+        ran.refuses_data("refused 11 at 0");
+        assert!(ran
+            .err
+            .ends_with("the name 2003 is that of sheet 0: name:2003\n"));
     }
 }

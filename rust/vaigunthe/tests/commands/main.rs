@@ -6,6 +6,7 @@ mod completions;
 mod correct;
 mod export;
 mod fetch;
+mod grid;
 mod judge;
 mod list;
 mod made;

@@ -1,0 +1,120 @@
+//! A workbook with its strings at hand, and what its cells show.
+
+use super::strings::SharedStrings;
+use crate::errors;
+use crate::input::Stream;
+use crate::wanted::Wanted;
+use station::{Cell, FormulaResult, Refusal, Sheet, SheetKind, Value, Workbook};
+
+pub struct Book<'a> {
+    stream: &'a [u8],
+    workbook: Workbook<'a>,
+    strings: SharedStrings,
+    /// The one sheet that is asked for, where not all are.
+    only: Option<usize>,
+}
+
+/// What a cell shows.
+pub enum Shown<'a> {
+    /// A blank, or the text of a formula, which its record doesn't hold.
+    Nothing,
+    Number(u64),
+    Text(&'a [u16]),
+    Truth(bool),
+    Error(&'static str),
+}
+
+impl<'a> Book<'a> {
+    pub fn read(stream: &'a [u8], only: Option<&Wanted>) -> Result<Self, Refusal> {
+        let workbook = station::check(stream)?;
+        let only = match only {
+            Some(wanted) => {
+                let number = wanted.number(&workbook);
+                station::cells(stream, number)?;
+                Some(number as usize)
+            }
+            None => None,
+        };
+        Ok(Book {
+            stream,
+            workbook,
+            strings: SharedStrings::of(&workbook),
+            only,
+        })
+    }
+
+    /// The sheets that are asked for, with their numbers.
+    pub fn sheets(&self) -> impl Iterator<Item = (usize, Sheet<'a>)> {
+        let only = self.only;
+        let asked = move |number: usize| only.is_none_or(|only| only == number);
+        self.workbook
+            .sheets()
+            .enumerate()
+            .filter(move |(number, _)| asked(*number))
+    }
+
+    /// Those that may have cells.
+    pub fn worksheets(&self) -> impl Iterator<Item = (usize, Sheet<'a>)> {
+        self.sheets()
+            .filter(|(_, sheet)| sheet.kind == SheetKind::Worksheet)
+    }
+
+    /// Where no sheet is asked for, it is the one worksheet; says why that can't be.
+    pub fn one_worksheet(&mut self) -> Result<(), String> {
+        if self.only.is_some() {
+            return Ok(());
+        }
+        let numbers: Vec<_> = self.worksheets().map(|(number, _)| number).collect();
+        match numbers[..] {
+            [number] => {
+                self.only = Some(number);
+                Ok(())
+            }
+            [] => Err("there is no worksheet".into()),
+            _ => Err(format!(
+                "there are {} worksheets: name one with --sheet, or have a file for each with --output-dir",
+                numbers.len()
+            )),
+        }
+    }
+
+    /// The kind of a cell, and what it shows.
+    pub fn shown(&self, value: Value) -> (&'static str, Shown<'_>) {
+        match value {
+            Value::Blank => ("blank", Shown::Nothing),
+            Value::Number(bits) => ("number", Shown::Number(bits)),
+            Value::Text(index) => ("text", Shown::Text(self.strings.get(index))),
+            Value::Truth(truth) => ("truth", Shown::Truth(truth != 0)),
+            Value::Error(code) => ("error", Shown::Error(errors::name(code))),
+            Value::Formula(FormulaResult::Number(bits)) => ("formula number", Shown::Number(bits)),
+            Value::Formula(FormulaResult::Text) => ("formula text", Shown::Nothing),
+            Value::Formula(FormulaResult::Truth(truth)) => {
+                ("formula truth", Shown::Truth(truth != 0))
+            }
+            Value::Formula(FormulaResult::Error(code)) => {
+                ("formula error", Shown::Error(errors::name(code)))
+            }
+            Value::Formula(FormulaResult::Empty) => ("formula empty", Shown::Text(&[])),
+        }
+    }
+
+    /// The token bytes of a formula cell.
+    pub fn tokens(&self, cell: &Cell) -> Option<&'a [u8]> {
+        match cell.value() {
+            Value::Formula(_) => self.stream.get(cell.tokens()),
+            _ => None,
+        }
+    }
+
+    /// Says how many fields of a grid are empty though Excel shows something there.
+    pub fn tell_unread(&self, stream: &Stream<'_>) {
+        let text = |cell: &Cell| cell.value() == Value::Formula(FormulaResult::Text);
+        let cells = self.sheets().flat_map(|(_, sheet)| sheet.cells());
+        let count = cells.filter(text).count();
+        if count > 0 {
+            stream.note(format_args!(
+                "formulas whose result is a text: {count}; these texts are not read, and their fields are empty"
+            ));
+        }
+    }
+}

@@ -1,0 +1,63 @@
+//! A grid for each worksheet, in files of one folder.
+
+use super::book::Book;
+use super::grid::{self, Grid};
+use crate::input::Stream;
+use crate::outcome::Failure;
+use crate::replace::Place;
+use station::Sheet;
+use std::ffi::OsStr;
+use std::fs;
+use std::io::{self, ErrorKind, Write};
+use std::path::Path;
+
+/// How many fields all grids may have together: a small stream can have many sheets with one cell in the last corner each.
+const MOST_FIELDS: usize = 1 << 28;
+
+pub fn write(
+    book: &Book<'_>,
+    stream: &Stream<'_>,
+    mark: &str,
+    name: &OsStr,
+) -> Result<(), Failure> {
+    let sheets = book.worksheets().map(|(_, sheet)| sheet);
+    if sheets.map(|sheet| grid::most_fields(&sheet)).sum::<usize>() > MOST_FIELDS {
+        return Err(stream.failure(format!(
+            "the grids of all sheets have over {MOST_FIELDS} fields: export them one by one with --sheet"
+        )));
+    }
+    let folder = Path::new(name);
+    make(folder).map_err(|error| Failure::of_file(name, &error))?;
+    for (number, sheet) in book.worksheets() {
+        let grid = Grid::of(book, &sheet);
+        let file = file_name(number, &sheet);
+        let failed = |error: io::Error| Failure::of_file(folder.join(&file).as_os_str(), &error);
+        let place = Place::within(folder, &file).map_err(failed)?;
+        if stream.path().is_some_and(|read| place.replaces(read)) {
+            return Err(stream.failure("this is what is read: it is not written over"));
+        }
+        let written = place.put(false, |out| {
+            out.write_all(mark.as_bytes())?;
+            grid.write(out)
+        });
+        written.map_err(failed)?;
+    }
+    Ok(())
+}
+
+fn make(folder: &Path) -> io::Result<()> {
+    match fs::create_dir(folder) {
+        Err(error) if error.kind() == ErrorKind::AlreadyExists && folder.is_dir() => Ok(()),
+        made => made,
+    }
+}
+
+/// A name for the file of a sheet: no system takes it for anything else, and the number keeps it apart from the others. It isn't too long: a stream that
+/// passes has no sheet's name over 31 characters.
+fn file_name(number: usize, sheet: &Sheet<'_>) -> String {
+    let plain = |character: &char| character.is_alphanumeric() || " -_.".contains(*character);
+    let name: String = char::decode_utf16(sheet.name_units())
+        .map(|character| character.ok().filter(plain).unwrap_or('_'))
+        .collect();
+    format!("{number}-{name}.csv")
+}

@@ -1,0 +1,122 @@
+//! A sheet as a CSV with its rows and columns.
+
+use super::book::{Book, Shown};
+use super::csv::write_shown;
+use station::{Sheet, Value};
+use std::io::{self, Write};
+
+/// A cell with its place. There are as many of these as there are cells, however far apart they lie.
+struct Placed {
+    row: u16,
+    column: u16,
+    value: Value,
+}
+
+/// The cells of a sheet by row and column, one for an address.
+pub struct Grid<'b, 'a> {
+    book: &'b Book<'a>,
+    cells: Vec<Placed>,
+    rows: usize,
+    columns: usize,
+}
+
+/// No row has more columns.
+const COMMAS: [u8; 256] = [b','; 256];
+
+/// A set of addresses, a bit for each. By it a blank is kept only where it covers a value: a stream has room for millions that don't.
+struct Addresses(Vec<u64>);
+
+impl Addresses {
+    fn none() -> Self {
+        Addresses(vec![0; 65_536 * 256 / 64])
+    }
+
+    /// Puts an address in or takes it out, and says whether it was in.
+    fn put(&mut self, row: u16, column: u16, wanted: bool) -> bool {
+        let place = usize::from(row) << 8 | usize::from(column & 0xFF);
+        let (word, bit) = (&mut self.0[place / 64], 1 << (place % 64));
+        let was = *word & bit != 0;
+        *word = if wanted { *word | bit } else { *word & !bit };
+        was
+    }
+}
+
+/// How many fields a sheet's grid has at most.
+pub fn most_fields(sheet: &Sheet<'_>) -> usize {
+    let values = sheet.cells().filter(|cell| !cell.is_blank());
+    let (rows, columns) = values.fold((0, 0), |(rows, columns), cell| {
+        let (row, column) = (usize::from(cell.row()), usize::from(cell.column()));
+        (rows.max(row + 1), columns.max(column + 1))
+    });
+    rows * columns
+}
+
+impl<'b, 'a> Grid<'b, 'a> {
+    /// Of several cells at one address the last listed stays.
+    pub fn of(book: &'b Book<'a>, sheet: &Sheet<'_>) -> Self {
+        let mut cells = Vec::new();
+        let mut values = Addresses::none();
+        sheet.cells().for_each(|cell| {
+            let (row, column, value) = (cell.row(), cell.column(), cell.value());
+            let covers = values.put(row, column, value != Value::Blank);
+            if covers || value != Value::Blank {
+                cells.push(Placed { row, column, value });
+            }
+        });
+        let place = |cell: &Placed| (cell.row, cell.column);
+        // Listed later is still later among those of one address.
+        cells.sort_by_key(place);
+        cells.dedup_by(|later, kept| {
+            let same = place(later) == place(kept);
+            if same {
+                kept.value = later.value;
+            }
+            same
+        });
+        cells.retain(|cell| cell.value != Value::Blank);
+        let rows = cells.last().map_or(0, |cell| usize::from(cell.row) + 1);
+        let columns = cells.iter().map(|cell| usize::from(cell.column) + 1).max();
+        Grid {
+            book,
+            cells,
+            rows,
+            columns: columns.unwrap_or(0),
+        }
+    }
+
+    pub fn write<W: Write>(&self, out: &mut W) -> io::Result<()> {
+        let mut rest = &self.cells[..];
+        for row in 0..self.rows {
+            let here = |cell: &Placed| usize::from(cell.row) == row;
+            let count = rest.iter().take_while(|cell| here(cell)).count();
+            let (cells, after) = rest.split_at(count);
+            self.write_row(cells, out)?;
+            rest = after;
+        }
+        Ok(())
+    }
+
+    fn write_row<W: Write>(&self, cells: &[Placed], out: &mut W) -> io::Result<()> {
+        let mut column = 0;
+        for cell in cells {
+            let next = usize::from(cell.column);
+            out.write_all(&COMMAS[..next - column])?;
+            column = next;
+            let (_, shown) = self.book.shown(cell.value);
+            self.write_field(&shown, out)?;
+        }
+        if cells.is_empty() {
+            self.write_field(&Shown::Nothing, out)?;
+        }
+        out.write_all(&COMMAS[..self.columns - 1 - column])?;
+        out.write_all(b"\r\n")
+    }
+
+    /// In a single column an empty field is a pair of quotes: many readers pass over an empty line.
+    fn write_field<W: Write>(&self, shown: &Shown<'_>, out: &mut W) -> io::Result<()> {
+        match shown {
+            Shown::Nothing | Shown::Text([]) if self.columns == 1 => out.write_all(b"\"\""),
+            shown => write_shown(shown, out),
+        }
+    }
+}
