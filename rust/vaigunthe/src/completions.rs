@@ -61,7 +61,7 @@ fn words(command: &Command) -> Vec<&'static str> {
 
 /// What an option is for, up to the first pause.
 fn short(about: &str) -> &str {
-    about.split([';', ':', '.']).next().unwrap_or(about)
+    about.split(';').next().unwrap_or(about)
 }
 
 /// A word for a shell that takes what stands in single quotes as it is.

@@ -1,6 +1,6 @@
 //! What the tool says of itself.
 
-use crate::arguments::{Arguments, Operands};
+use crate::arguments::{too_many, Arguments, Operands};
 use crate::commands::{self, Command, COMMANDS};
 use crate::outcome::{Failure, Output, Status};
 use crate::page::{parts, Page, Part};
@@ -77,7 +77,8 @@ pub const HELP_COMMAND: Command = Command {
 fn run(arguments: &Arguments, out: &mut Output) -> Result<Status, Failure> {
     match arguments.operands() {
         [] => write!(out, "{}", Page(&tool()))?,
-        [name, ..] => write_one(commands::named(name)?, out)?,
+        [name] => write_one(commands::named(name)?, out)?,
+        [_, extra, ..] => return Err(too_many(extra)),
     }
     Ok(Status::Answered)
 }

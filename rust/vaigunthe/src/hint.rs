@@ -8,7 +8,8 @@ const ZIP: &[u8] = b"PK\x03\x04";
 const TAKE_OUT: &str = "\
 this is a whole .xls file; take its workbook stream out first, with one of
   gsf cat FILE Workbook > session.bin       of Debian's package libgsf-bin
-  7z e -so FILE Workbook > session.bin      of Debian's package p7zip-full";
+  7z e -so FILE Workbook > session.bin      of Debian's package p7zip-full
+  Where it has no Workbook but a Book, it is of Excel 5.0 or 95, which is not read.";
 
 const SAVE_AS: &str = "\
 the station reads workbooks of Excel 97 to 2003

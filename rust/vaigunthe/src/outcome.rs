@@ -1,6 +1,6 @@
 //! How a run ends: its status, or why it could not answer.
 
-use crate::text::Name;
+use crate::text::FilePath;
 use std::ffi::OsStr;
 use std::fmt::Display;
 use std::io::{self, BufWriter, ErrorKind, StdoutLock, Write};
@@ -51,7 +51,7 @@ impl Failure {
     }
 
     pub fn of_file(name: &OsStr, error: &io::Error) -> Self {
-        Failure::File(format!("{}: {error}", Name(name)))
+        Failure::File(format!("{}: {error}", FilePath(name)))
     }
 
     /// Says what went wrong. A reader that has seen enough and closed the pipe is told nothing.

@@ -68,11 +68,27 @@ const LONGEST_WORD: usize = 50;
 
 impl Display for Word<'_> {
     fn fmt(&self, f: &mut Formatter<'_>) -> fmt::Result {
-        let whole = Name(self.0).to_string();
-        match whole.char_indices().nth(LONGEST_WORD) {
-            Some((at, _)) => write!(f, "{}…", &whole[..at]),
-            None => f.write_str(&whole),
-        }
+        write_cut(f, self.0, LONGEST_WORD)
+    }
+}
+
+/// The path of a file in a message. Only what no system takes for a path is cut.
+pub struct FilePath<'a>(pub &'a OsStr);
+
+/// As long as a path may be.
+const LONGEST_PATH: usize = 4_096;
+
+impl Display for FilePath<'_> {
+    fn fmt(&self, f: &mut Formatter<'_>) -> fmt::Result {
+        write_cut(f, self.0, LONGEST_PATH)
+    }
+}
+
+fn write_cut(f: &mut Formatter<'_>, word: &OsStr, longest: usize) -> fmt::Result {
+    let whole = Name(word).to_string();
+    match whole.char_indices().nth(longest) {
+        Some((at, _)) => write!(f, "{}…", &whole[..at]),
+        None => f.write_str(&whole),
     }
 }
 

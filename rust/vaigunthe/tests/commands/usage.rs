@@ -62,6 +62,7 @@ fn help() {
         assert_eq!(helped(&[command, "operand", "--help", "another"]), page);
     }
     run(&["help", "chekc"]).fails("did you mean 'check'?");
+    run(&["help", "check", "more"]).fails("'more' is one too many");
 }
 
 /// Help fits a terminal: no line is long, and none has an escape sequence.
@@ -174,6 +175,9 @@ fn long_words_are_cut() {
         ran.fails("xxx…'");
         assert!(ran.err.len() < 1_000, "{}", ran.err);
     }
+    let ran = run(&["check", &long]);
+    assert_eq!(ran.status, Some(2));
+    assert!(ran.err.len() < 5_000 && ran.err.contains("xxx…: "));
 }
 
 /// How far a run has come is shown on a terminal, but not where that would only print the sequence.
