@@ -15,8 +15,10 @@ use crate::outcome::{Failure, Output, Status};
 use crate::replace::Place;
 use crate::wanted::Wanted;
 use book::Book;
+use station::Refusal;
 use std::ffi::OsStr;
-use std::io::{self, Write};
+use std::fs::File;
+use std::io::{self, BufWriter, Write};
 use std::path::Path;
 
 pub const EXPORT: Command = Command {
@@ -211,21 +213,11 @@ fn run(arguments: &Arguments, out: &mut Output) -> Result<Status, Failure> {
     let stream = Stream::read(arguments.operand(0))?;
     let mut book = match Book::read(&stream.bytes, only.as_ref()) {
         Ok(book) => book,
-        Err(refusal) => {
-            let status = stream.explain(refusal);
-            let workbook = station::check(&stream.bytes).ok();
-            if let Some(note) = workbook
-                .zip(only)
-                .and_then(|(workbook, only)| only.note(&workbook))
-            {
-                stream.note(note);
-            }
-            return Ok(status);
-        }
+        Err(refusal) => return Ok(refuse(&stream, refusal, only.as_ref())),
     };
     if let (Form::Grid, Target::Output | Target::File(_)) = (&form, &target) {
-        book.one_worksheet()
-            .map_err(|message| stream.failure(message))?;
+        let one = book.one_worksheet();
+        one.map_err(|message| stream.failure(message))?;
     }
     match target {
         Target::Output => {
@@ -233,16 +225,9 @@ fn run(arguments: &Arguments, out: &mut Output) -> Result<Status, Failure> {
             form.write(&book, out)?;
         }
         Target::File(name) => {
-            let failed = |error: io::Error| Failure::of_file(name, &error);
-            let place = Place::of(Path::new(name)).map_err(failed)?;
-            if stream.path().is_some_and(|read| place.replaces(read)) {
-                return Err(stream.failure("this is what is read: it is not written over"));
-            }
-            let written = place.put(false, |out| {
-                out.write_all(mark.as_bytes())?;
-                form.write(&book, out)
-            });
-            written.map_err(failed)?;
+            let path = Path::new(name);
+            let write = |out: &mut Written<'_>| form.write(&book, out);
+            put(&stream, path, Place::of(path), mark, write)?;
         }
         Target::Folder(name) => folder::write(&book, &stream, mark, name)?,
     }
@@ -250,4 +235,38 @@ fn run(arguments: &Arguments, out: &mut Output) -> Result<Status, Failure> {
         book.tell_unread(&stream);
     }
     Ok(Status::Answered)
+}
+
+/// Says what a refusal means, and of a sheet that is absent what there is instead.
+fn refuse(stream: &Stream<'_>, refusal: Refusal, only: Option<&Wanted>) -> Status {
+    let status = stream.explain(refusal);
+    let workbook = station::check(&stream.bytes).ok();
+    let asked = workbook.zip(only);
+    if let Some(note) = asked.and_then(|(workbook, only)| only.note(&workbook)) {
+        stream.note(note);
+    }
+    status
+}
+
+/// A file that is being written.
+type Written<'f> = BufWriter<&'f File>;
+
+/// Puts what is written into a file, behind the mark; never into the one that is read.
+fn put(
+    stream: &Stream<'_>,
+    path: &Path,
+    place: io::Result<Place>,
+    mark: &str,
+    write: impl FnOnce(&mut Written<'_>) -> io::Result<()>,
+) -> Result<(), Failure> {
+    let failed = |error: io::Error| Failure::of_file(path.as_os_str(), &error);
+    let place = place.map_err(failed)?;
+    if stream.path().is_some_and(|read| place.replaces(read)) {
+        return Err(stream.failure("this is what is read: it is not written over"));
+    }
+    let written = place.put(false, |out| {
+        out.write_all(mark.as_bytes())?;
+        write(out)
+    });
+    written.map_err(failed)
 }

@@ -2,13 +2,14 @@
 
 use super::book::Book;
 use super::grid::{self, Grid};
+use super::{put, Written};
 use crate::input::Stream;
 use crate::outcome::Failure;
 use crate::replace::Place;
 use station::Sheet;
 use std::ffi::OsStr;
 use std::fs;
-use std::io::{self, ErrorKind, Write};
+use std::io::{self, ErrorKind};
 use std::path::Path;
 
 /// How many fields all grids may have together: a small stream can have many sheets with one cell in the last corner each.
@@ -31,16 +32,9 @@ pub fn write(
     for (number, sheet) in book.worksheets() {
         let grid = Grid::of(book, &sheet);
         let file = file_name(number, &sheet);
-        let failed = |error: io::Error| Failure::of_file(folder.join(&file).as_os_str(), &error);
-        let place = Place::within(folder, &file).map_err(failed)?;
-        if stream.path().is_some_and(|read| place.replaces(read)) {
-            return Err(stream.failure("this is what is read: it is not written over"));
-        }
-        let written = place.put(false, |out| {
-            out.write_all(mark.as_bytes())?;
-            grid.write(out)
-        });
-        written.map_err(failed)?;
+        let place = Place::within(folder, &file);
+        let write = |out: &mut Written<'_>| grid.write(out);
+        put(stream, &folder.join(file), place, mark, write)?;
     }
     Ok(())
 }
