@@ -5,8 +5,7 @@ use crate::commands::Command;
 use crate::input::Stream;
 use crate::outcome::{Failure, Output, Status};
 use crate::text::InLine;
-use station::{Cell, FormulaResult, SheetKind, Value, Workbook, LONGEST_STRING};
-use std::fmt::{self, Display, Formatter};
+use station::{SheetKind, Workbook, LONGEST_STRING};
 use std::io::{self, Write};
 
 /// What most commands take.
@@ -129,7 +128,7 @@ fn write_list(workbook: &Workbook<'_>, out: &mut Output) -> io::Result<()> {
     for (number, sheet) in workbook.sheets().enumerate() {
         writeln!(out, "sheet {number} rows {}", sheet.rows())?;
         for cell in sheet.cells() {
-            writeln!(out, "{}", CellLine(&cell))?;
+            writeln!(out, "{cell}")?;
         }
     }
     Ok(())
@@ -138,26 +137,6 @@ fn write_list(workbook: &Workbook<'_>, out: &mut Output) -> io::Result<()> {
 /// The cells of all sheets.
 pub fn count_cells(workbook: &Workbook<'_>) -> usize {
     workbook.sheets().map(|sheet| sheet.cells().count()).sum()
-}
-
-struct CellLine<'a>(&'a Cell);
-
-impl Display for CellLine<'_> {
-    fn fmt(&self, f: &mut Formatter<'_>) -> fmt::Result {
-        write!(f, "{} {} ", self.0.row(), self.0.column())?;
-        match self.0.value() {
-            Value::Blank => f.write_str("blank"),
-            Value::Number(bits) => write!(f, "number {bits:016X}"),
-            Value::Text(index) => write!(f, "text {index}"),
-            Value::Truth(truth) => write!(f, "truth {truth}"),
-            Value::Error(code) => write!(f, "error {code:02X}"),
-            Value::Formula(FormulaResult::Number(bits)) => write!(f, "formula number {bits:016X}"),
-            Value::Formula(FormulaResult::Text) => f.write_str("formula text"),
-            Value::Formula(FormulaResult::Truth(truth)) => write!(f, "formula truth {truth}"),
-            Value::Formula(FormulaResult::Error(code)) => write!(f, "formula error {code:02X}"),
-            Value::Formula(FormulaResult::Empty) => f.write_str("formula empty"),
-        }
-    }
 }
 
 fn sheets(arguments: &Arguments, out: &mut Output) -> Result<Status, Failure> {
