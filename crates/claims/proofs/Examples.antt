@@ -1,9 +1,11 @@
 -- The table of worked examples holds, by computation. Assumes nothing.
 use mathlib.Core.Path.{refl}
+use lib.Ieee.{isNan, ofFields, ofBits, toBits}
 use Rattle.walk.specs.Choice.{pick}
 use Rattle.le.specs.Bytes.{numAt}
 use Rattle.number.specs.Rounding.{rounded, digits}
-use Rattle.number.specs.Rk.{rkBits, quotientBits, rkSign, rkSize, meansNothing}
+use Rattle.number.specs.Float64.{bitsOf}
+use Rattle.number.specs.Rk.{rkBits, quotientBits, rkSign, rkSize, meansNothing, rkOf}
 use Rattle.number.specs.Packing.{packOf, wholeForm}
 use Rattle.functions.specs.Counts.{countsOf}
 use Rattle.formula.specs.Tokens.{operandOf, wholeOf, textOf, attributeOf, baseOf, columnClear, referenceOf, areaOf, fixedOf, variableOf, memoryOf, innerOf, classifiedOf, tokenOf}
@@ -14,5 +16,5 @@ use Rattle.strings.specs.Table.{runsAt, phoneticAt, headAt, startSize, head, re
 use Rattle.claims.specs.Examples.{examples, AllAnswered}
 
 pub all-answered : AllAnswered
-unfolding examples pick numAt rounded digits rkBits quotientBits rkSign rkSize meansNothing packOf wholeForm operandOf wholeOf textOf attributeOf baseOf columnClear referenceOf areaOf fixedOf variableOf memoryOf innerOf classifiedOf tokenOf atEnd formulaOf judgeOf headerAt continues nextSegment filled need room items runsAt phoneticAt headAt startSize head rest stringAt nextPlace strings tableOf
+unfolding examples pick isNan ofFields ofBits toBits numAt rounded digits bitsOf rkBits quotientBits rkSign rkSize meansNothing rkOf packOf wholeForm operandOf wholeOf textOf attributeOf baseOf columnClear referenceOf areaOf fixedOf variableOf memoryOf innerOf classifiedOf tokenOf atEnd formulaOf judgeOf headerAt continues nextSegment filled need room items runsAt phoneticAt headAt startSize head rest stringAt nextPlace strings tableOf
 all-answered = refl

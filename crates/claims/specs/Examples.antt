@@ -1,24 +1,27 @@
 -- The worked examples of document 01 that are marked to be proved: one table of questions with their answers.
-use Prim.Native.Nat.{ℕ, _+_, _*_, _/_, _^_}
+use Prim.Native.Nat.{ℕ, _+_}
 use mathlib.Core.Path.{_≡_}
 use mathlib.Core.List.{List, [], _∷_, _++_, map}
-use mathlib.Core.Bool.{Bool, true, false}
-use Rattle.walk.specs.Choice.{pick}
+use lib.Ieee.{binary64, ofBits}
 use Rattle.le.specs.Bytes.{u16At}
-use Rattle.number.specs.Rounding.{rounded, signed}
-use Rattle.number.specs.Rk.{rkBits, meansNothing}
-use Rattle.number.specs.Packing.{packOf}
-use Rattle.number.specs.declared.Packed.{Packed}
-use Rattle.number.specs.declared.Packed.the-variants.{Word, Unpacked}
+use Rattle.number.specs.Float64.{bitsOf}
+use Rattle.number.specs.declared.Rk.{Rk}
+use Rattle.number.specs.declared.Rk.the-variants as rk
+use Rattle.number.specs.Rk.{rkOf}
+use Rattle.value.specs.declared.Field.the-variants.{RkWord}
+use Rattle.change.specs.declared.NewValue.the-variants.{Number}
+use Rattle.change.specs.declared.Plan.{Plan}
+use Rattle.change.specs.declared.Plan.the-variants as plan
+use Rattle.change.specs.Change.{planOf}
 use Rattle.formula.specs.declared.Judgement.{Judgement}
 use Rattle.formula.specs.declared.Judgement.the-variants.{Accepted, Refused}
 use Rattle.formula.specs.Judge.{judgeOf}
 use Rattle.strings.specs.Table.{stringsOf}
 
--- what an RK word means, how the number n / d is packed, how a formula's bytes are judged, which strings an SST and its CONTINUEs hold
+-- what an RK word means, how the number of these 64 bits is packed, how a formula's bytes are judged, which strings an SST and its CONTINUEs hold
 pub data Question : Type 0 where
   rkWord : ℕ → Question
-  packing : ℕ → ℕ → Question
+  packing : ℕ → Question
   formula : List ℕ → Question
   strings : List ℕ → Question
 
@@ -30,25 +33,23 @@ pub data Answer : Type 0 where
   units : List (List ℕ) → Answer
   refused : ℕ → ℕ → Answer
 
--- the 64 bits of n / d, and of its negative
-abbrev pub quotient : ℕ → ℕ → ℕ
-quotient n d = rounded (n * 2 ^ 1074) d
+-- a number is told by its 64 bits
+abbrev pub meant : Rk → Answer
+meant (rk.Number x) = number (bitsOf x)
+meant rk.Nothing = nothing
 
-abbrev pub minus : ℕ → ℕ
-minus b = signed true b
-
--- a value that doesn't fit is 18 at 0
-abbrev pub packed : Packed → Answer
-packed (Word w) = word w
-packed Unpacked = refused 18 0
+-- the word that a packed cell's field takes, or the refusal of the correction
+abbrev pub planned : Plan → Answer
+planned (plan.Put n) = word n
+planned (plan.Refused n o) = refused n o
 
 abbrev pub judged : Judgement → Answer
 judged Accepted = accepted
 judged (Refused n o) = refused n o
 
 abbrev pub answerOf : Question → Answer
-answerOf (rkWord w) = pick (meansNothing w) nothing (number (rkBits w))
-answerOf (packing n d) = packed (packOf (quotient n d))
+answerOf (rkWord w) = meant (rkOf w)
+answerOf (packing b) = planned (planOf RkWord (Number (ofBits binary64 b)) 0)
 answerOf (formula b) = judged (judgeOf b)
 answerOf (strings b) = units (stringsOf b 0 (4 + u16At b 2))
 
@@ -69,14 +70,15 @@ continuation = 0x3C ∷ 0x00 ∷ 0x03 ∷ 0x00 ∷ 0x01 ∷ 0xA9 ∷ 0x03 ∷ []
 
 unfoldable pub examples : List Example
 examples =
-    (rkWord 0x3FF00000 ⟶ number (quotient 1 1))
-    ∷ (rkWord 0x3FF00001 ⟶ number (quotient 1 100))
-    ∷ (rkWord 0x004B5646 ⟶ number (quotient 1234321 1))
-    ∷ (rkWord 0xFFFFFFFE ⟶ number (minus (quotient 1 1)))
-    ∷ (packing 536870911 1 ⟶ word 0x7FFFFFFE)
-    ∷ (packing 536870912 1 ⟶ word (quotient 536870912 1 / 2 ^ 32))
-    ∷ (packing 536870913 1 ⟶ refused 18 0)
-    ∷ (packing 1 10 ⟶ refused 18 0)
+    (rkWord 0x3FF00000 ⟶ number 0x3FF0000000000000)
+    ∷ (rkWord 0x3FF00001 ⟶ number 0x3F847AE147AE147B)
+    ∷ (rkWord 0x004B5646 ⟶ number 0x4132D59100000000)
+    ∷ (rkWord 0xFFFFFFFE ⟶ number 0xBFF0000000000000)
+    -- 536,870,911 and the two after it, and 0.1
+    ∷ (packing 0x41BFFFFFFF000000 ⟶ word 0x7FFFFFFE)
+    ∷ (packing 0x41C0000000000000 ⟶ word 0x41C00000)
+    ∷ (packing 0x41C0000000800000 ⟶ refused 18 0)
+    ∷ (packing 0x3FB999999999999A ⟶ refused 18 0)
     ∷ (formula (0x44 ∷ 0x00 ∷ 0x00 ∷ 0x00 ∷ 0xC0 ∷ 0x1E ∷ 0x01 ∷ 0x00 ∷ 0x03 ∷ []) ⟶ accepted)
     ∷ (formula (0x03 ∷ []) ⟶ refused 14 0)
     ∷ (formula (0x1E ∷ 0x01 ∷ 0x00 ∷ 0x1E ∷ 0x01 ∷ 0x00 ∷ []) ⟶ refused 14 6)
