@@ -23,7 +23,7 @@ use Rattle.batch.specs.Batch.{wordsOf, filled}
 
 -- the words of the one cell of the record at `at`
 abbrev pub oneWords : List ℕ → ℕ → Said → ℕ → ℕ → List ℕ
-oneWords s at x field length = (u16At s (at + 4) + u16At s (at + 6) * 65536 + u16At s (at + 8) * 4294967296 + x .kind * 281474976710656) ∷ x .word ∷ field ∷ length ∷ []
+oneWords s at x field size = (u16At s (at + 4) + u16At s (at + 6) * 65536 + u16At s (at + 8) * 4294967296 + x .kind * 281474976710656) ∷ x .word ∷ field ∷ size ∷ []
 
 -- j cells of the record at `at` from the k-th on, put into b after the n that it has
 unfoldable pub partsIn : List ℕ → Field → ℕ → ℕ → ℕ → ℕ → List ℕ → List ℕ
