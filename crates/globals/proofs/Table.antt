@@ -16,7 +16,7 @@ use Rattle.record.proofs.Laws.{Whole, whole}
 use Rattle.strings.specs.declared.Strings.{Strings}
 use Rattle.strings.specs.declared.Strings.the-variants as strings
 use Rattle.strings.specs.Table.{tableOf, placesOf, answerOf}
-use Rattle.strings.proofs.Laws.{checked-count}
+use Rattle.strings.proofs.Laws.{Accepted, accepted, checked-count}
 use Rattle.globals.specs.declared.Globals.{Globals}
 use Rattle.globals.specs.declared.Step.{Step}
 use Rattle.globals.specs.declared.Step.the-variants.{More, Close, Stop}
@@ -29,6 +29,7 @@ use Rattle.globals.proofs.Laws.{go, left, falls}
 pub record Stands (s : List ℕ) (p n : ℕ) : Type 0 where
   pub later : 0 < p
   pub within : p + 4 + u16At s (p + 2) ≤ length s
+  pub table : Accepted s p (p + 4 + u16At s (p + 2))
   pub count : length (placesOf s p (p + 4 + u16At s (p + 2))) ≡ n
 
 -- u is the unique count where there is no SST
@@ -45,9 +46,10 @@ module _ (s : List ℕ) (u : ℕ) where
     told-table : (t z e : ℕ) → Whole s (v .at) t z e → (x : Strings) → x ≡ answerOf (tableOf s (v .at) e) → ToldBy (onTable v x)
     unfolding pastTable
     told-table t z e w (strings.Table n o) h =
+        let a = accepted s (v .at) e (strings.Table n o) h n o refl in
         let c = checked-count s (v .at) e (strings.Table n o) h n o refl in
         let i : e ≡ v .at + 4 + u16At s (v .at + 2) = omega arith in
-        inr (record { later = later; within = omega arith; count = subst (λ (k : ℕ). length (placesOf s (v .at) k) ≡ n) i c })
+        inr (record { later = later; within = omega arith; table = subst (Accepted s (v .at)) i a; count = subst (λ (k : ℕ). length (placesOf s (v .at) k) ≡ n) i c })
     told-table t z e w (strings.Refused n o) h = tt
 
     told-record : (t z e : ℕ) → Whole s (v .at) t z e → ToldBy (recordIn s v t z e)

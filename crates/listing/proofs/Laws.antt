@@ -44,7 +44,7 @@ use Rattle.listing.specs.declared.Step.{Step}
 use Rattle.listing.specs.declared.Step.the-variants as step
 use Rattle.listing.specs.declared.Sought.{Sought}
 use Rattle.listing.specs.declared.Sought.the-variants as sought
-use Rattle.listing.specs.Listing.{sheetOf, nameOf, firstSheet, cellsOf, onItem, nextOf, tokensIn}
+use Rattle.listing.specs.Listing.{sheetOf, nameOf, cellsOf, onItem, nextOf, tokensIn}
 use Rattle.listing.specs.Parts.{itemOf, foundSheet, SoughtWithin}
 
 -- ---- one step
@@ -84,7 +84,7 @@ pub ruleset step-laws = (inside, by-found, last-part, more-parts, by-header)
 
 -- ---- the next cell
 module _ (s : List ℕ) where
-  abbrev go : Place → Next Place Listed
+  abbrev pub go : Place → Next Place Listed
   go v = onItem (cellItem s v)
 
   falls-by : (v w : Place) (x : Item Place Cell) → Nearer (remaining s) v x → onItem x ≡ more w → remaining s w < remaining s v
@@ -92,7 +92,7 @@ module _ (s : List ℕ) where
   falls-by v w (skips t) n h = let e : t ≡ w = cc in rw e at n
   falls-by v w ends n h = absurd (let z : _≡_ {A = ℕ} 0 1 = cc in omega arith)
 
-  falls : (v w : Place) → go v ≡ more w → remaining s w < remaining s v
+  pub falls : (v w : Place) → go v ≡ more w → remaining s w < remaining s v
   falls v w h = falls-by v w (cellItem s v) (item-near s v) h
 
   module _ (v₀ v : Place) (r : Step) (is : itemOf r ≡ cellItem s v) where
@@ -325,14 +325,10 @@ module _ (s : List ℕ) where
   cells-by v n (Right g) h = started v (sheetsOf s) n h
   cells-by v n (Wrong m o) h = absurd (let z : _≡_ {A = ℕ} 0 1 = cc in omega arith)
 
-  -- from `cells` on, `next_cell` gives the cells of sheet n
+  -- the list from where `cells` starts is that of sheet n
   pub cells-listed : (n : ℕ) (v : Place) → cellsOf s n ≡ start.At v → listedFrom s v ≡ nth (sheetsOf s) n (λ (x : Sheet). listedOf s x) []
   unfolding cellsOf
   cells-listed n v h = cells-by v n (checkedOf s 0) h
-
-  -- from `first_sheet` on, `next_sheet` gives the sheets of the stream
-  pub sheets-listed : sheetsFrom s firstSheet ≡ sheetsOf s
-  sheets-listed = refl
 
 -- ---- a formula's tokens
 module _ (s : List ℕ) (c : Cell) (size : ℕ) (is : size ≡ c .tokens .length) where
