@@ -74,9 +74,9 @@ struct station_answer station_judge(const uint8_t *tokens, size_t length);
 /* fetch: the units of a shared string at the front of the buffer; later units stay. room is the buffer's length in units. */
 struct station_units station_fetch(const uint8_t *stream, size_t length, uint32_t index, uint16_t *units, size_t room);
 
-/* the same for the next string from a place on, and the place after it. number is 12 where the buffer has fewer units than the
- * string (65,535 are enough for any); ended says that no whole string follows. The place then stays. */
-struct station_string { bool ended; uint8_t number; size_t units; size_t segment; size_t at; size_t end; };
+/* the same for the next string from a place on, and the place after it. It is refused as 12 at 0 where the buffer has fewer units
+ * than the string (65,535 are enough for any); ended says that no whole string follows. The place then stays. */
+struct station_string { bool ended; uint8_t number; size_t offset; size_t units; size_t segment; size_t at; size_t end; };
 struct station_string station_next_string(const uint8_t *stream, size_t length, size_t segment, size_t at, size_t end,
                                           uint16_t *units, size_t room);
 

@@ -12,10 +12,10 @@ use segments::Moved;
 use strings::Fetched;
 use workbook::Checked;
 
-// The next string: how many units were written, and the place after it; `Short` where the buffer has fewer units than the string; or no further string.
+// The next string: how many units were written, and the place after it; 12 at 0 where the buffer has fewer units than the string; or no further string.
 pub enum NextString {
     Units { units: usize, next: Cursor },
-    Short,
+    Refused { number: u8, offset: usize },
     End,
 }
 
@@ -98,10 +98,7 @@ fn string_from(s: &[u8], d: Cursor, buf: &mut [u16]) -> NextString
         } => NextString::End,
         Moved::To(next) => match strings::fetch_at(s, d, buf) {
             Fetched::Units(units) => NextString::Units { units, next },
-            Fetched::Refused {
-                number: _,
-                offset: _,
-            } => NextString::Short,
+            Fetched::Refused { number, offset } => NextString::Refused { number, offset },
         },
     }
 }

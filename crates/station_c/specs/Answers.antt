@@ -64,9 +64,9 @@ fetchSeen (fetched.Refused n o) = record { number = n; offset = o; units = 0 }
 
 -- the next string from a place on: the place stays where there is none, or no room for it
 abbrev pub textSeen : Cursor → NextString → SharedString
-textSeen c (nextString.Units n d) = record { ended = false; number = 0; units = n; segment = d .seg; at = d .at; end = d .end }
-textSeen c nextString.Short = record { ended = false; number = 12; units = 0; segment = c .seg; at = c .at; end = c .end }
-textSeen c nextString.End = record { ended = true; number = 0; units = 0; segment = c .seg; at = c .at; end = c .end }
+textSeen c (nextString.Units n d) = record { ended = false; number = 0; offset = 0; units = n; segment = d .seg; at = d .at; end = d .end }
+textSeen c (nextString.Refused m o) = record { ended = false; number = m; offset = o; units = 0; segment = c .seg; at = c .at; end = c .end }
+textSeen c nextString.End = record { ended = true; number = 0; offset = 0; units = 0; segment = c .seg; at = c .at; end = c .end }
 
 abbrev pub cellsSeen : Start → Cells
 cellsSeen (start.At v) = record { number = 0; offset = 0; at = v .at; part = v .part; level = v .level }

@@ -51,6 +51,7 @@ pub struct Units {
 pub struct SharedString {
     pub ended: bool,
     pub number: u8,
+    pub offset: usize,
     pub units: usize,
     pub segment: usize,
     pub at: usize,
@@ -183,14 +184,16 @@ pub extern "C" fn station_next_string(
         NextString::Units { units, next } => SharedString {
             ended: false,
             number: 0,
+            offset: 0,
             units,
             segment: next.seg,
             at: next.at,
             end: next.end,
         },
-        NextString::Short => SharedString {
+        NextString::Refused { number, offset } => SharedString {
             ended: false,
-            number: 12,
+            number,
+            offset,
             units: 0,
             segment,
             at,
@@ -199,6 +202,7 @@ pub extern "C" fn station_next_string(
         NextString::End => SharedString {
             ended: true,
             number: 0,
+            offset: 0,
             units: 0,
             segment,
             at,

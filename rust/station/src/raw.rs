@@ -29,6 +29,7 @@ pub struct Units {
 pub struct SharedString {
     pub ended: bool,
     pub number: u8,
+    pub offset: usize,
     pub units: usize,
     pub segment: usize,
     pub at: usize,
