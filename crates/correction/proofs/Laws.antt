@@ -43,7 +43,8 @@ use Rattle.reading.specs.declared.Outside.{Outside}
 use Rattle.reading.specs.declared.Outside.the-variants as outside
 use Rattle.scan.specs.declared.Scanned.{Scanned}
 use Rattle.scan.specs.declared.Scanned.the-variants as scanned
-use Rattle.scan.specs.Scan.{Row, Passed, Scan}
+use Rattle.scan.specs.Scan.{scanOf}
+use Rattle.scan.proofs.Laws.{Row, Passed, Scan, scan-says}
 use Rattle.listing.specs.declared.Sought.{Sought}
 use Rattle.listing.specs.declared.Sought.the-variants as sought
 use Rattle.listing.specs.Parts.{foundSheet}
@@ -230,10 +231,10 @@ joined-none target.None = refl
 joined-none (target.One k f) = refl
 joined-none target.Many = refl
 
-module _ (s : List ℕ) (from row column at level : ℕ) (found : Target) (inv : Finding s from row column at level found) (r : Scanned) (is : Scan s at level r) where
+module _ (s : List ℕ) (from row column at level : ℕ) (found : Target) (inv : Finding s from row column at level found) (r : Scanned) (is : r ≡ scanOf s at level) where
   module _ (id here first n next : ℕ) (h : r ≡ scanned.Cells id here first n next) where
     scanned-row : (level ≡ 0) × Row s at id here first n next
-    scanned-row = subst (Scan s at level) h is
+    scanned-row = subst (Scan s at level) (sym is ∙ h) (scan-says s at level)
 
     pub row-less : length s - next < length s - at
     row-less = let x = scanned-row .1 in omega arith
@@ -256,7 +257,7 @@ module _ (s : List ℕ) (from row column at level : ℕ) (found : Target) (inv :
 
   module _ (o : Outside) (h : r ≡ scanned.None o) where
     passed : Passed s at level o
-    passed = subst (Scan s at level) h is
+    passed = subst (Scan s at level) (sym is ∙ h) (scan-says s at level)
 
     module _ (e m : ℕ) (i : o ≡ outside.Next e m) where
       passed-next : (listedFrom s (placeAt at level) ≡ listedFrom s (placeAt e m)) × (at < e) × (e ≤ length s)

@@ -1,34 +1,42 @@
--- What a scanned record says of the listing from its place on.
-use Prim.Native.Nat.{ℕ, _≤_, _<_}
-use mathlib.Core.Path.{_≡_}
-use mathlib.Core.List.{List, [], _++_}
-use lib.ListN.{length}
-use Rattle.record.specs.declared.Header.the-variants.{Record}
+-- The record at a place of a sheet's listing, for those who need no values: its cells, which stand in one row from the first column on; or, where it has none,
+-- how the listing goes on past it.
+use Prim.Native.Nat.{ℕ}
+use mathlib.Core.List.{List}
+use lib.Dec.{eqb}
+use Rattle.walk.specs.Choice.{pick}
+use Rattle.walk.specs.Items.{Item, gives, skips, ends}
+use Rattle.record.specs.declared.Header.{Header}
+use Rattle.record.specs.declared.Header.the-variants.{Record, Cut, End}
 use Rattle.record.specs.Record.{headerAt}
-use Rattle.cell.specs.Cells.{shapeOf, rowAt, firstAt, countOf, cellsOf}
-use Rattle.reading.specs.Cells.{placeAt, listedFrom}
+use Rattle.cell.specs.declared.Cell.{Cell}
+use Rattle.cell.specs.Cells.{shapeOf, rowAt, firstAt, countOf}
+use Rattle.reading.specs.declared.Place.{Place}
+use Rattle.reading.specs.Cells.{placeAt, otherItem}
 use Rattle.reading.specs.declared.Outside.{Outside}
 use Rattle.reading.specs.declared.Outside.the-variants as outside
 use Rattle.scan.specs.declared.Scanned.{Scanned}
 use Rattle.scan.specs.declared.Scanned.the-variants as scanned
 
--- the cells of the record, which come first in the list
-pub record Row (s : List ℕ) (at id row first n next : ℕ) : Type 0 where
-  pub size : ℕ
-  pub header : headerAt s at ≡ Record id size next
-  pub count : n ≡ countOf (shapeOf id) s at size
-  pub some : 0 < n
-  pub few : n ≤ 256
-  pub row-is : row ≡ rowAt s at
-  pub first-is : first ≡ firstAt s at
-  pub list : listedFrom s (placeAt at 0) ≡ cellsOf s (shapeOf id) at size ++ listedFrom s (placeAt next 0)
-  pub ahead : at < next
-  pub within : next ≤ length s
+abbrev pub past : Item Place Cell → Outside
+past (gives c t) = outside.End
+past (skips t) = outside.Next (t .at) (t .level)
+past ends = outside.End
 
-abbrev pub Passed : List ℕ → ℕ → ℕ → Outside → Type 0
-Passed s at level (outside.Next e l) = (listedFrom s (placeAt at level) ≡ listedFrom s (placeAt e l)) × (at < e) × (e ≤ length s)
-Passed s at level outside.End = listedFrom s (placeAt at level) ≡ []
+abbrev pub without : ℕ → ℕ → ℕ → Scanned
+without level t e = scanned.None (past (otherItem (placeAt 0 level) t e))
 
-abbrev pub Scan : List ℕ → ℕ → ℕ → Scanned → Type 0
-Scan s at level (scanned.Cells id row first n next) = (level ≡ 0) × Row s at id row first n next
-Scan s at level (scanned.None o) = Passed s at level o
+-- only what stands directly in the sheet counts
+unfoldable pub recordScan : List ℕ → ℕ → ℕ → ℕ → ℕ → ℕ → Scanned
+recordScan s at level t z e =
+    pick (eqb level 0)
+    (pick (eqb (countOf (shapeOf t) s at z) 0) (without level t e)
+    (scanned.Cells t (rowAt s at) (firstAt s at) (countOf (shapeOf t) s at z) e))
+    (without level t e)
+
+abbrev pub onHeader : List ℕ → ℕ → ℕ → Header → Scanned
+onHeader s at level (Record t z e) = recordScan s at level t z e
+onHeader s at level Cut = scanned.None outside.End
+onHeader s at level End = scanned.None outside.End
+
+unfoldable pub scanOf : List ℕ → ℕ → ℕ → Scanned
+scanOf s at level = onHeader s at level (headerAt s at)

@@ -1,5 +1,6 @@
 // The cell records of a sheet, one after the other: for those who need the addresses of its cells and no values.
-ghost use Rattle.scan.specs.Scan.{Scan};
+ghost use mathlib.Core.Path.{_≡_};
+ghost use Rattle.scan.specs.Scan.{scanOf};
 use reading::Outside;
 use record::Header;
 
@@ -17,7 +18,7 @@ pub enum Scanned {
 
 // The record at a place of a sheet's listing.
 pub fn scan(s: &[u8], at: usize, level: u8) -> Scanned
-    ensures { λ r. ⌜ Scan (now (s .entry)) at level r ⌝ }
+    ensures { λ r. ⌜ r ≡ scanOf (now (s .entry)) at level ⌝ }
 {
     match record::header_at(s, at) {
         Header::Record {

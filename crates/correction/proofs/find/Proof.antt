@@ -1,5 +1,5 @@
 use borrow.Author.Needs.{needs}
-use Rattle.correction.proofs.Laws.{Finding, find-laws}
+use Rattle.correction.proofs.Laws.{Finding, find-laws, next-again}
 use Prim.Native.Nat.{_-_}
 use lib.ListN.{length}
 use Rattle.correction.proofs.find.Statement.{statement}
@@ -34,7 +34,7 @@ find-spec =
     -- loop-less-2
     (λ c. search (find-laws, needs))
     -- loop-again-2
-    (λ c. search (find-laws, needs))
+    (λ c. search next-again)
     -- enum-told
     (λ c. search needs)
     -- returns
