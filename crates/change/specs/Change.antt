@@ -1,8 +1,9 @@
 -- A new value for a cell: what its value field takes, or the refusal, and the stream after it.
-use Prim.Native.Nat.{ℕ, _+_, _/_, _%_, _^_}
+use Prim.Native.Nat.{ℕ, _+_, _/_, _%_, _^_, _<_}
 use mathlib.Core.Bool.{Bool, not}
 use mathlib.Core.List.{List}
-use lib.Dec.{ltb, eqb}
+use lib.Dec.{T, ltb, eqb}
+use lib.Ieee.{binary64, fits}
 use lib.Seq.{sets}
 use Rattle.walk.specs.Choice.{pick}
 use Rattle.le.specs.Bytes.{bytesOf}
@@ -22,6 +23,13 @@ use Rattle.change.specs.declared.Plan.{Plan}
 use Rattle.change.specs.declared.Plan.the-variants.{Put, Refused}
 use Rattle.change.specs.declared.Answer.{Answer}
 use Rattle.change.specs.declared.Answer.the-variants.{Granted, Refused as AnswerRefused}
+
+-- a new value as its type holds it: an f64, a u32, a byte
+abbrev pub Held : NewValue → Type 0
+Held (Number x) = T (fits binary64 x)
+Held (Text i) = i < 2 ^ 32
+Held (Truth t) = t < 256
+Held (Error e) = e < 256
 
 -- the value doesn't fit: 18
 unfoldable pub putIf : Bool → ℕ → Plan

@@ -6,13 +6,13 @@ use mathlib.Core.Logic.{_⊎_, inl, inr, _↔_}
 use mathlib.Core.Bool.{Bool, true, false, not}
 use native.Mathlib.Omega.{arith}
 use lib.Dec.{ltb, eqb}
-use lib.ListN.{length}
-use lib.Seq.{length-sets}
+use lib.ListN.{length, getD}
+use lib.Seq.{sets, length-sets}
 use borrow.Author.Tests.{le-ltb, ltb-false, leb-false, lt-leb}
 use Rattle.walk.specs.Choice.{pick}
 use Rattle.walk.proofs.Choice.{never, pick-by}
 use Rattle.walk.specs.Items.{nth}
-use Rattle.le.specs.Bytes.{bytesOf}
+use Rattle.le.specs.Bytes.{numAt, bytesOf}
 use Rattle.le.proofs.Laws.{stored-other, num-stored}
 use Rattle.record.proofs.Laws.{whole}
 use Rattle.boolerr.specs.Boolerr.{isTruth, isError}
@@ -27,10 +27,10 @@ use Rattle.value.specs.Value.{widthOf, valueOf}
 use Rattle.cell.specs.declared.Cell.{Cell}
 use Rattle.change.specs.declared.NewValue.{NewValue}
 use Rattle.change.specs.declared.NewValue.the-variants.{Number, Text, Truth, Error}
+use Rattle.change.specs.declared.Answer.the-variants as changed
 use Rattle.change.specs.declared.Plan.{Plan}
 use Rattle.change.specs.declared.Plan.the-variants as plan
-use Rattle.change.specs.Change.{putIf, finite, floatPlan, packedPlan, planOf}
-use Rattle.kept.specs.Claims.{Held}
+use Rattle.change.specs.Change.{Held, putIf, finite, floatPlan, packedPlan, planOf}
 use Rattle.kept.proofs.Planned.{planned, unpacked}
 use Rattle.sheetlist.specs.Agreement.{Sheet}
 use Rattle.globals.specs.declared.Globals.{Globals}
@@ -39,41 +39,80 @@ use Rattle.workbook.specs.declared.Checked.{Checked}
 use Rattle.workbook.specs.declared.Checked.the-variants.{Right, Wrong}
 use Rattle.workbook.specs.declared.Answer.the-variants.{Passed}
 use Rattle.workbook.specs.Check.{checkedOf, answered, checkOf, onChecked}
-use Rattle.reading.specs.Reading.{startOf, listedOf}
-use Rattle.correction.specs.Correction.{refuses, cellsAt, onPlan, onCells, correctionOf}
+use Rattle.reading.specs.Reading.{startOf, listedOf, readingOf}
+use Rattle.correction.specs.Correction.{Correction, refuses, writes, cellsAt, onPlan, onCells, correctionOf, answerOf, streamAfter}
 use Rattle.chain.specs.Chain.{Nth}
 use Rattle.chain.proofs.Chain.{nth-is, nth-missing, nth-either}
+use Rattle.upheld.specs.Granted.{Granted}
 use Rattle.upheld.proofs.Granted.{granted, listed-only, field-high}
 use Rattle.upheld.proofs.Upheld.{upheld, sheets-stay}
 use Rattle.reread.proofs.Reading.{reads-replaced}
-use Rattle.claims.specs.Demand3.{HoldsNew, OthersStay, passed, Passes, ReadsNew, takes, Unfit, Only, Refusal, checked, no-sheet, no-cell, many, kind, value, RefusedExactly, PackedExactly}
+use Rattle.claims.specs.Demand3.{Corrects, Only, One, HoldsNew, OthersStay, passed, Passes, ReadsNew, takes, Unfit, Refusal, checked, no-sheet, no-cell, many, kind, value, RefusedExactly, RefusedKeeps, PackedExactly}
 
--- ---- a granted correction
+-- ---- a granted correction: what was written, and into which cell
+record Made (s : List ℕ) (n row column : ℕ) (v : NewValue) (t : List ℕ) : Type 0 where
+  kind : Field
+  place : ℕ
+  number : ℕ
+  is : correctionOf s n row column v ≡ writes kind place number
+  after : t ≡ streamAfter s (writes kind place number)
+  given : Granted s n row column v kind place number
+
+module _ {s : List ℕ} {n row column : ℕ} {v : NewValue} {t : List ℕ} where
+  made : Corrects s n row column v changed.Granted t → Made s n row column v t
+  made h = by (correctionOf s n row column v) refl
+    where
+      by : (x : Correction) → correctionOf s n row column v ≡ x → Made s n row column v t
+      by (refuses m o) i = let e : changed.Granted ≡ changed.Refused m o = h .answer ∙ ap answerOf i in never (cc)
+      by (writes f p b) i = record { kind = f; place = p; number = b; is = i; after = h .after ∙ ap (streamAfter s) i; given = granted s n row column v f p b i }
+
+  one : (m : Made s n row column v t) {P : Cell → Type 0} → P (m .given .cell) → One s n row column P
+  one m holds =
+      let g = m .given in
+      record { cell = g .cell; unique = g .globals .unique; only = record { globals = g .globals; passes = g .passes; count = refl; sheet = g .sheet; nth = g .nth; only = g .only }; holds = holds }
+
+  -- the new stream: the old one with the cell's value field written
+  written : (m : Made s n row column v t) → t ≡ sets s (m .given .cell .field) (bytesOf (widthOf (m .given .cell .kind)) (m .number))
+  written m = m .after ∙ (let k = sym (m .given .kind) in let p = sym (m .given .field) in λ i. sets s (p i) (bytesOf (widthOf (k i)) (m .number)))
+
 pub holds-new : HoldsNew
-holds-new s n row column v f p b held h =
-    let given = granted s n row column v f p b h in
-    let at = listed-only s (startOf s (given .sheet)) row column (given .cell) (given .only) in
-    let says = planned f v (given .globals .unique) b held (ap (λ (k : Field). planOf k v (given .globals .unique)) (sym (given .kind)) ∙ given .plan) in
+holds-new s n row column v t h =
+    let m = made h in
+    let given = m .given in
+    let c = given .cell in
+    let at = listed-only s (startOf s (given .sheet)) row column c (given .only) in
+    let says = planned (c .kind) v (given .globals .unique) (m .number) (h .held) (given .plan) in
     let in-record = field-high at in
-    let place = given .field in
-    let width = ap widthOf (given .kind) in
     let in-stream = whole s (at .at) (at .type) (at .size) (at .end) (at .header) in
-    ap (valueOf f) (num-stored (widthOf f) b s p (omega arith) (says .small)) ∙ says .value
+    one m
+    (ap (λ (x : List ℕ). valueOf (c .kind) (numAt x (widthOf (c .kind)) (c .field))) (written m)
+    ∙ ap (valueOf (c .kind)) (num-stored (widthOf (c .kind)) (m .number) s (c .field) (omega arith) (says .small)) ∙ says .value)
 
 pub others-stay : OthersStay
-others-stay s n row column v f p b held h = (length-sets s p (bytesOf (widthOf f) b), stored-other (widthOf f) b s p)
+others-stay s n row column v t h =
+    let m = made h in
+    let c = m .given .cell in
+    one m (
+      ap length (written m) ∙ length-sets s (c .field) (bytesOf (widthOf (c .kind)) (m .number)),
+      λ j out. ap (λ (x : List ℕ). getD x j 0) (written m) ∙ stored-other (widthOf (c .kind)) (m .number) s (c .field) j out,
+    )
 
 pub passes : Passes
 unfolding checkOf
-passes s n row column v f p b held h =
-    let given = granted s n row column v f p b h in
-    let same = upheld s n row column v f p b held h in
+passes s n row column v t h =
+    let m = made h in
+    let given = m .given in
+    let t′ : List ℕ = streamAfter s (writes (m .kind) (m .place) (m .number)) in
+    let same = upheld s n row column v (m .kind) (m .place) (m .number) (h .held) (m .is) in
     let old : checkOf s ≡ Passed (length (sheetsOf s)) (given .globals .unique) = ap (answered s) (given .passes) in
-    let new : checkOf _ ≡ Passed (length (sheetsOf s)) (given .globals .unique) = ap (answered _) (same ∙ given .passes) ∙ ap (λ (l : List Sheet). Passed (length l) (given .globals .unique)) (sym (sheets-stay s n row column v f p b held given)) in
-    (ap passed new, new ∙ sym old)
+    let new : checkOf t′ ≡ Passed (length (sheetsOf s)) (given .globals .unique) = ap (answered t′) (same ∙ given .passes) ∙ ap (λ (l : List Sheet). Passed (length l) (given .globals .unique)) (sym (sheets-stay s n row column v (m .kind) (m .place) (m .number) (h .held) given)) in
+    let new-after : checkOf t ≡ Passed (length (sheetsOf s)) (given .globals .unique) = ap checkOf (m .after) ∙ new in
+    one m (ap passed new-after, new-after ∙ sym old)
 
 pub reads-new : ReadsNew
-reads-new = reads-replaced
+reads-new s n row column v t h =
+    let m = made h in
+    one m (ap readingOf (m .after) ∙ reads-replaced s n row column v (m .kind) (m .place) (m .number) (h .held) (m .is))
 
 -- ---- refused exactly when the table says
 -- which row a plan meets, where t says that the kind takes the value and U that it doesn't fit
@@ -211,18 +250,28 @@ module _ (s : List ℕ) (n row column : ℕ) (v : NewValue) (held : Held v) wher
   met-refused m o (kind {c = c} {unique = u} i e) = on-only c u i ∙ ap (onPlan c) (settles (c .kind) v u held .kind e)
   met-refused m o (value {c = c} {unique = u} i e x) = on-only c u i ∙ ap (onPlan c) (settles (c .kind) v u held .value e x)
 
+refused-by : (x : Correction) (m o : ℕ) → answerOf x ≡ changed.Refused m o → x ≡ refuses m o
+refused-by (refuses a b) m o h = let i : a ≡ m = cc in let j : b ≡ o = cc in rw (i, j) refl
+refused-by (writes f p b) m o h = never (cc)
+
 pub refused-as-said : RefusedExactly
 unfolding correctionOf
-refused-as-said s n row column v m o held = (λ h. checked-met s n row column v held m o (checkedOf s 0) refl h, met-refused s n row column v held m o)
+refused-as-said s n row column v r t h m o = (
+  λ e. checked-met s n row column v (h .held) m o (checkedOf s 0) refl (refused-by (correctionOf s n row column v) m o (sym (h .answer) ∙ e)),
+  λ x. h .answer ∙ ap answerOf (met-refused s n row column v (h .held) m o x),
+)
+
+pub refused-keeps : RefusedKeeps
+refused-keeps s n row column v m o t h = h .after ∙ ap (streamAfter s) (refused-by (correctionOf s n row column v) m o (sym (h .answer)))
 
 refused-plan : (c : Cell) (p : Plan) → onPlan c p ≡ refuses 18 0 → p ≡ plan.Refused 18 0
 refused-plan c (plan.Put k) h = never (cc)
 refused-plan c (plan.Refused m o) h = let i : m ≡ 18 = cc in let j : o ≡ 0 = cc in rw (i, j) refl
 
 pub packed-as-said : PackedExactly
-packed-as-said s n row column c u x i packed held f =
-    let asked : correctionOf s n row column (Number x) ≡ onPlan c (planOf RkWord (Number x) u) = on-only s n row column (Number x) held c u i ∙ ap (λ (k : Field). onPlan c (planOf k (Number x) u)) packed in
-    let exactly = unpacked x u held in (
-      λ h. exactly .0 (refused-plan c (planOf RkWord (Number x) u) (sym asked ∙ h)),
-      λ none. asked ∙ ap (onPlan c) (exactly .1 none),
+packed-as-said s n row column c u x r t h i packed f =
+    let asked : correctionOf s n row column (Number x) ≡ onPlan c (planOf RkWord (Number x) u) = on-only s n row column (Number x) (h .held) c u i ∙ ap (λ (k : Field). onPlan c (planOf k (Number x) u)) packed in
+    let exactly = unpacked x u (h .held) in (
+      λ e. exactly .0 (refused-plan c (planOf RkWord (Number x) u) (sym asked ∙ refused-by (correctionOf s n row column (Number x)) 18 0 (sym (h .answer) ∙ e))),
+      λ none. h .answer ∙ ap answerOf (asked ∙ ap (onPlan c) (exactly .1 none)),
     )

@@ -1,12 +1,10 @@
--- Demand 3, a claim for each of its sentences.
+-- Demand 3, a claim for each of its sentences. They speak of what `correction::correct` promises of a call.
 use Prim.Native.Nat.{ℕ, _+_, _≤_, _<_}
 use mathlib.Core.Path.{_≡_}
 use mathlib.Core.List.{List, [], _∷_}
 use mathlib.Core.Logic.{_⊎_, _↔_}
 use mathlib.Core.Bool.{Bool, true, false}
-use lib.Dec.{T}
-use lib.Ieee as Ieee
-use lib.Ieee.{binary64, fits}
+use lib.Ieee.{Float as F64}
 use lib.ListN.{length, getD}
 use Rattle.le.specs.Bytes.{numAt}
 use Rattle.boolerr.specs.Boolerr.{isError}
@@ -18,8 +16,9 @@ use Rattle.value.specs.Value.{widthOf, valueOf}
 use Rattle.cell.specs.declared.Cell.{Cell}
 use Rattle.change.specs.declared.NewValue.{NewValue}
 use Rattle.change.specs.declared.NewValue.the-variants.{Number, Text, Truth, Error}
-use Rattle.change.specs.Change.{newOf, finite}
-use Rattle.kept.specs.Claims.{Held}
+use Rattle.change.specs.declared.Answer as change
+use Rattle.change.specs.declared.Answer.the-variants as changed
+use Rattle.change.specs.Change.{Held, newOf, finite}
 use Rattle.sheetlist.specs.Agreement.{Sheet}
 use Rattle.globals.specs.declared.Globals.{Globals}
 use Rattle.globals.specs.Sheets.{sheetsOf}
@@ -28,24 +27,46 @@ use Rattle.workbook.specs.declared.Answer.{Answer}
 use Rattle.workbook.specs.declared.Answer.the-variants.{Passed, Refused}
 use Rattle.workbook.specs.Check.{checkedOf, checkOf}
 use Rattle.reading.specs.Reading.{listedOf, readingOf}
-use Rattle.correction.specs.Correction.{refuses, writes, cellsAt, correctionOf, streamAfter}
+use Rattle.correction.specs.Correction.{cellsAt, correctionOf, answerOf, streamAfter}
 use Rattle.chain.specs.Chain.{Nth}
 use Rattle.reread.specs.Replaced.{replaced}
 
--- what holds of each granted correction: s is the stream, f the kind and p the place of the value field, t the stream after it
-abbrev pub Granted : (List ℕ → ℕ → ℕ → ℕ → NewValue → Field → ℕ → List ℕ → Type 0) → Type 0
-Granted P =
-    (s : List ℕ) (n row column : ℕ) (v : NewValue) (f : Field) (p b : ℕ) → Held v → correctionOf s n row column v ≡ writes f p b
-    → P s n row column v f p (streamAfter s (writes f p b))
+-- what `correct` ensures, clause by clause: s is the stream before the call, r the answer, t the stream after it
+pub record Corrects (s : List ℕ) (n row column : ℕ) (v : NewValue) (r : change.Answer) (t : List ℕ) : Type 0 where
+  pub answer : r ≡ answerOf (correctionOf s n row column v)
+  pub after : t ≡ streamAfter s (correctionOf s n row column v)
+  pub held : Held v
 
--- the value field holds the new value
+-- the one cell of the address in sheet n of a stream that passes
+pub record Only (s : List ℕ) (n row column : ℕ) (c : Cell) (unique : ℕ) : Type 0 where
+  pub globals : Globals
+  pub passes : checkedOf s 0 ≡ Right globals
+  pub count : globals .unique ≡ unique
+  pub sheet : Sheet
+  pub nth : Nth (sheetsOf s) n sheet
+  pub only : cellsAt row column (listedOf s sheet) ≡ c ∷ []
+
+-- there is such a cell, and P holds of it
+pub record One (s : List ℕ) (n row column : ℕ) (P : Cell → Type 0) : Type 0 where
+  pub cell : Cell
+  pub unique : ℕ
+  pub only : Only s n row column cell unique
+  pub holds : P cell
+
+-- ---- what holds of each granted correction: c is the one cell of the address, t the stream after it
+abbrev pub Granted : (List ℕ → ℕ → ℕ → ℕ → NewValue → Cell → List ℕ → Type 0) → Type 0
+Granted P =
+    (s : List ℕ) (n row column : ℕ) (v : NewValue) (t : List ℕ) → Corrects s n row column v changed.Granted t
+    → One s n row column (λ c. P s n row column v c t)
+
+-- that cell's value field holds the new value
 abbrev pub HoldsNew : Type 0
-HoldsNew = Granted (λ s n row column v f p t. valueOf f (numAt t (widthOf f) p) ≡ newOf v)
+HoldsNew = Granted (λ s n row column v c t. valueOf (c .kind) (numAt t (widthOf (c .kind)) (c .field)) ≡ newOf v)
 
 -- every other byte is as it was, and no byte is gone or added
 abbrev pub OthersStay : Type 0
 OthersStay =
-    Granted (λ s n row column v f p t. (length t ≡ length s) × ((j : ℕ) → (j < p) ⊎ (p + widthOf f ≤ j) → getD t j 0 ≡ getD s j 0))
+    Granted (λ s n row column v c t. (length t ≡ length s) × ((j : ℕ) → (j < c .field) ⊎ (c .field + widthOf (c .kind) ≤ j) → getD t j 0 ≡ getD s j 0))
 
 abbrev pub passed : Answer → Bool
 passed (Passed sheets strings) = true
@@ -53,11 +74,11 @@ passed (Refused number offset) = false
 
 -- the new stream passes the check, with as many sheets and strings
 abbrev pub Passes : Type 0
-Passes = Granted (λ s n row column v f p t. (passed (checkOf t) ≡ true) × (checkOf t ≡ checkOf s))
+Passes = Granted (λ s n row column v c t. (passed (checkOf t) ≡ true) × (checkOf t ≡ checkOf s))
 
 -- it reads the same but for that cell
 abbrev pub ReadsNew : Type 0
-ReadsNew = Granted (λ s n row column v f p t. readingOf t ≡ replaced n row column (newOf v) (readingOf s))
+ReadsNew = Granted (λ s n row column v c t. readingOf t ≡ replaced n row column (newOf v) (readingOf s))
 
 -- ---- a correction is refused exactly when the table says
 -- a number goes to NUMBER, RK or MULRK, a text index to LABELSST, truth or error to BOOLERR
@@ -98,15 +119,6 @@ Unfit f unique (Text i) = unique ≤ i
 Unfit f unique (Truth t) = 1 < t
 Unfit f unique (Error e) = isError e ≡ false
 
--- the one cell of the address in sheet n of a stream that passes
-pub record Only (s : List ℕ) (n row column : ℕ) (c : Cell) (unique : ℕ) : Type 0 where
-  pub globals : Globals
-  pub passes : checkedOf s 0 ≡ Right globals
-  pub count : globals .unique ≡ unique
-  pub sheet : Sheet
-  pub nth : Nth (sheetsOf s) n sheet
-  pub only : cellsAt row column (listedOf s sheet) ≡ c ∷ []
-
 -- the row of the table that a correction meets: its number and offset
 pub data Refusal (s : List ℕ) (n row column : ℕ) (v : NewValue) : ℕ → ℕ → Type 0 where
   -- any refusal that the check would give
@@ -124,11 +136,16 @@ pub data Refusal (s : List ℕ) (n row column : ℕ) (v : NewValue) : ℕ → �
 
 abbrev pub RefusedExactly : Type 0
 RefusedExactly =
-    (s : List ℕ) (n row column : ℕ) (v : NewValue) (m o : ℕ) → Held v → (correctionOf s n row column v ≡ refuses m o) ↔ Refusal s n row column v m o
+    (s : List ℕ) (n row column : ℕ) (v : NewValue) (r : change.Answer) (t : List ℕ) → Corrects s n row column v r t
+    → (m o : ℕ) → (r ≡ changed.Refused m o) ↔ Refusal s n row column v m o
+
+-- where it is refused, no byte changes
+abbrev pub RefusedKeeps : Type 0
+RefusedKeeps = (s : List ℕ) (n row column : ℕ) (v : NewValue) (m o : ℕ) (t : List ℕ) → Corrects s n row column v (changed.Refused m o) t → t ≡ s
 
 -- in a stream that passes, where a packed cell's address occurs once in its sheet, a finite number is refused exactly when no undivided packed word
 -- means it
 abbrev pub PackedExactly : Type 0
 PackedExactly =
-    (s : List ℕ) (n row column : ℕ) (c : Cell) (unique : ℕ) (x : Ieee.Float) → Only s n row column c unique → c .kind ≡ RkWord → T (fits binary64 x) → finite (bitsOf x) ≡ true
-    → (correctionOf s n row column (Number x) ≡ refuses 18 0) ↔ ((w : ℕ) → Means w (bitsOf x) → ⊥)
+    (s : List ℕ) (n row column : ℕ) (c : Cell) (unique : ℕ) (x : F64) (r : change.Answer) (t : List ℕ) → Corrects s n row column (Number x) r t
+    → Only s n row column c unique → c .kind ≡ RkWord → finite (bitsOf x) ≡ true → (r ≡ changed.Refused 18 0) ↔ ((w : ℕ) → Means w (bitsOf x) → ⊥)

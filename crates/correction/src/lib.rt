@@ -3,6 +3,7 @@ ghost use mathlib.Core.Path.{_≡_};
 ghost use Prim.Native.Nat.{_+_, _*_, _≤_};
 ghost use lib.ListN.{length};
 ghost use Rattle.cell.specs.Cells.{shapeOf, fieldOf, partOf, startOf};
+ghost use Rattle.change.specs.Change.{Held};
 ghost use Rattle.reading.specs.Cells.{placeAt, listedFrom};
 ghost use Rattle.correction.specs.Correction.{cellsAt, correctionOf, answerOf, streamAfter};
 ghost use Rattle.correction.specs.Parts.{targetOf, withOne, inRow, fieldOfCell, metOf, onTarget, aimOf, TargetWithin, AimWithin};
@@ -216,10 +217,12 @@ fn aim_at(s: &[u8], sheet: u32, row: u32, column: u32) -> Aim
     }
 }
 
-// Correct a cell: the value goes into its value field, and no other byte changes; on a refusal none does.
+// Correct a cell: the value goes into its value field, and no other byte changes; on a refusal none does. That the value is one that its type holds is what
+// the claims on a correction stand on.
 pub fn correct(s: &mut [u8], sheet: u32, row: u32, column: u32, value: NewValue) -> Answer
     ensures { λ r. ⌜ r ≡ answerOf (correctionOf (now (s .entry)) sheet row column value) ⌝ }
     ensures { λ r. ⌜ now (s .exit) ≡ streamAfter (now (s .entry)) (correctionOf (now (s .entry)) sheet row column value) ⌝ }
+    ensures { λ r. ⌜ Held value ⌝ }
 {
     match aim_at(&s[..], sheet, row, column) {
         Aim::Refused { number, offset } => Answer::Refused { number, offset },

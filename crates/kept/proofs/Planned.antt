@@ -24,8 +24,8 @@ use Rattle.value.specs.Value.{floatValue, rkValue, truthError, truthErrorFits}
 use Rattle.change.specs.declared.NewValue.{NewValue}
 use Rattle.change.specs.declared.NewValue.the-variants.{Number, Text, Truth, Error}
 use Rattle.change.specs.declared.Plan.the-variants.{Put, Refused}
-use Rattle.change.specs.Change.{putIf, finite, floatPlan, packedPlan, pairPlan, planOf, newOf}
-use Rattle.kept.specs.Claims.{Held, Says}
+use Rattle.change.specs.Change.{Held, putIf, finite, floatPlan, packedPlan, pairPlan, planOf, newOf}
+use Rattle.kept.specs.Claims.{Says}
 
 refused-put : {A : Type 0} (number offset b : ℕ) → Refused number offset ≡ Put b → A
 refused-put number offset b e = never (cc)

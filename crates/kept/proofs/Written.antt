@@ -16,8 +16,8 @@ use Rattle.cell.specs.declared.Judged.the-variants.{Passed}
 use Rattle.cell.specs.Cells.{fieldOf, partOf, fieldAt, cellsOf, cellOf, tokensOf, judgeOf}
 use Rattle.change.specs.declared.NewValue.{NewValue}
 use Rattle.change.specs.declared.Plan.the-variants.{Put}
-use Rattle.change.specs.Change.{planOf, changed, newOf}
-use Rattle.kept.specs.Claims.{Right, Held, Says, placeOf, revalued, putInto}
+use Rattle.change.specs.Change.{Held, planOf, changed, newOf}
+use Rattle.kept.specs.Claims.{Right, Says, placeOf, revalued, putInto}
 use Rattle.kept.proofs.Planned.{planned}
 use Rattle.kept.proofs.Records.{right, passes, field-within}
 use Rattle.kept.proofs.Changed.{tokens-kept, cells-changed, right-changed}

@@ -3,8 +3,6 @@ use Prim.Native.Nat.{ℕ, _+_, _*_, _^_, _≤_, _<_}
 use mathlib.Core.Path.{_≡_}
 use mathlib.Core.Bool.{true}
 use mathlib.Core.List.{List}
-use lib.Dec.{T}
-use lib.Ieee.{binary64, fits}
 use Rattle.value.specs.declared.Field.{Field}
 use Rattle.value.specs.declared.CellValue.{CellValue}
 use Rattle.value.specs.Value.{widthOf, valueOf, valueFits, indexFits}
@@ -12,7 +10,6 @@ use Rattle.cell.specs.declared.Shape.{Shape}
 use Rattle.cell.specs.declared.Cell.{Cell}
 use Rattle.cell.specs.Cells.{isCell, fieldOf, partOf, startOf, firstAt, countOf, fieldAt, fieldsFit}
 use Rattle.change.specs.declared.NewValue.{NewValue}
-use Rattle.change.specs.declared.NewValue.the-variants.{Number, Text, Truth, Error}
 use Rattle.change.specs.Change.{newOf, planOf, changed}
 
 -- where the value field of the k-th cell of a record starts
@@ -39,13 +36,6 @@ pub record Right (s : List ℕ) (h : Shape) (at z unique n : ℕ) : Type 0 where
   pub column : firstAt s at ≤ 255
   pub values : fieldsFit (fieldOf h) s (at + 8) n ≡ true
   pub index : indexFits (fieldOf h) (fieldAt (fieldOf h) s (at + 8)) unique ≡ true
-
--- a new value as its type holds it
-abbrev pub Held : NewValue → Type 0
-Held (Number x) = T (fits binary64 x)
-Held (Text i) = i < 2 ^ 32
-Held (Truth t) = t < 256
-Held (Error e) = e < 256
 
 -- the number b says the new value v in a field of kind f
 pub record Says (f : Field) (v : NewValue) (unique b : ℕ) : Type 0 where

@@ -21,8 +21,7 @@ use Rattle.cell.specs.declared.Cell.{Cell}
 use Rattle.cell.specs.Cells.{shapeOf, fieldOf, fieldAt, cellOf}
 use Rattle.change.specs.declared.NewValue.{NewValue}
 use Rattle.change.specs.declared.Plan.the-variants as plan
-use Rattle.change.specs.Change.{planOf, newOf}
-use Rattle.kept.specs.Claims.{Held}
+use Rattle.change.specs.Change.{Held, planOf, newOf}
 use Rattle.kept.proofs.Planned.{planned}
 use Rattle.substream.specs.declared.Ended.the-variants.{At}
 use Rattle.substream.specs.Substream.{pastParent, substreamIn}

@@ -12,8 +12,7 @@ use Rattle.walk.proofs.Choice.{pick-true, pick-false}
 use Rattle.value.specs.declared.Field.{Field}
 use Rattle.cell.specs.declared.Cell.{Cell}
 use Rattle.change.specs.declared.NewValue.{NewValue}
-use Rattle.change.specs.Change.{newOf}
-use Rattle.kept.specs.Claims.{Held}
+use Rattle.change.specs.Change.{Held, newOf}
 use Rattle.sheetlist.specs.Agreement.{Sheet}
 use Rattle.globals.specs.declared.Globals.{Globals}
 use Rattle.globals.specs.Globals.{globalsOf}

@@ -5,8 +5,7 @@ use mathlib.Core.List.{List, [], _∷_}
 use lib.ListN.{length}
 use Rattle.value.specs.declared.Field.{Field}
 use Rattle.change.specs.declared.NewValue.{NewValue}
-use Rattle.change.specs.Change.{newOf}
-use Rattle.kept.specs.Claims.{Held}
+use Rattle.change.specs.Change.{Held, newOf}
 use Rattle.reading.specs.Reading.{readingOf}
 use Rattle.correction.specs.Correction.{correctionOf, writes, streamAfter}
 use Rattle.reread.specs.Replaced.{replaced, valuesAt}

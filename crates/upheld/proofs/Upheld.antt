@@ -24,8 +24,8 @@ use Rattle.cell.specs.declared.Judged.the-variants as judged
 use Rattle.cell.specs.Cells.{shapeOf, isCell, fieldOf, countOf, judgeOf, judged}
 use Rattle.change.specs.declared.NewValue.{NewValue}
 use Rattle.change.specs.declared.Plan.the-variants.{Put}
-use Rattle.change.specs.Change.{planOf, changed}
-use Rattle.kept.specs.Claims.{Held, placeOf, putInto}
+use Rattle.change.specs.Change.{Held, planOf, changed}
+use Rattle.kept.specs.Claims.{placeOf, putInto}
 use Rattle.kept.proofs.Records.{right}
 use Rattle.kept.proofs.Written.{written-passes}
 use Rattle.substream.specs.declared.Here.{Here}

@@ -4,7 +4,7 @@ use mathlib.Core.Path.{_≡_}
 use mathlib.Core.List.{List}
 use Rattle.value.specs.declared.Field.{Field}
 use Rattle.change.specs.declared.NewValue.{NewValue}
-use Rattle.kept.specs.Claims.{Held}
+use Rattle.change.specs.Change.{Held}
 use Rattle.workbook.specs.Check.{checkedOf}
 use Rattle.correction.specs.Correction.{correctionOf, writes, streamAfter}
 

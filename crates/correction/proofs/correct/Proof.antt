@@ -1,4 +1,5 @@
 use Rattle.correction.proofs.Laws.{correct-laws}
+use Rattle.correction.proofs.Held.{held}
 use borrow.Author.Needs.{needs}
 use Rattle.correction.proofs.correct.Statement.{statement}
 use Rattle.correction.proofs.correct.Tie as tie
@@ -18,8 +19,8 @@ correct-spec =
     -- same-length
     (λ c. search needs)
     -- returns
-    (λ c. search (correct-laws, needs))
+    (λ c. (search (correct-laws, needs), (search (correct-laws, needs), let start = c .before .before .before .before .before .before in held (start .args .value) (start .good .1 .1 .1 .1 .0))))
     -- same-length-2
     (λ c. search needs)
     -- returns-2
-    (λ c. search (correct-laws, needs)))
+    (λ c. (search (correct-laws, needs), (search (correct-laws, needs), let start = c .before .before .before .before .before .before .before .before .before .before in held (start .args .value) (start .good .1 .1 .1 .1 .0)))))
