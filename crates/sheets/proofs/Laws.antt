@@ -12,9 +12,6 @@ use Rattle.walk.proofs.Choice.{never, pick-any}
 use Rattle.record.specs.declared.Header.{Header}
 use Rattle.record.specs.declared.Header.the-variants.{Record, Cut, End}
 use Rattle.record.specs.Record.{headerAt}
-use Rattle.substream.specs.declared.Ended.{Ended}
-use Rattle.substream.specs.declared.Ended.the-variants as ended
-use Rattle.substream.specs.Substream.{substreamIn}
 use Rattle.sheetlist.specs.Agreement.{Sheet, Bof, starts, claimed, agreementOf}
 use Rattle.sheetlist.specs.Slots.{inside, codeOf, marks, Marked, Empty, Onward, judgedIn, sooner, orElse, Passed}
 use Rattle.sheetlist.specs.declared.Agreement.{Agreement}
@@ -24,14 +21,11 @@ use Rattle.globals.specs.declared.Bound.{Bound}
 use Rattle.globals.specs.declared.Bound.the-variants as bound
 use Rattle.globals.specs.Sheets.{sheetAt, onBound, boundAt, sheetsFrom, sheetsOf}
 use Rattle.globals.proofs.Sheets.{sheets-done, sheets-skip, skip-less, sheets-more, sheets-less}
-use Rattle.toplevel.specs.declared.Top.{Top}
-use Rattle.toplevel.specs.declared.Top.the-variants as top
 use Rattle.toplevel.specs.declared.Found.{Found}
 use Rattle.toplevel.specs.declared.Found.the-variants as found
-use Rattle.toplevel.specs.TopLevel.{topOf, bofKind, bofAt, bofsFrom}
-use Rattle.toplevel.proofs.Laws.{by-open, by-top, bofs-done, bofs-more, bofs-next, bofs-less}
-use Rattle.sheets.specs.Parts as parts
-use Rattle.sheets.specs.Parts.{Filled, PassedAll, NamedAll, Lefts, Windowed, NextSheet, Followed, Ends}
+use Rattle.toplevel.specs.TopLevel.{bofAt, bofsFrom}
+use Rattle.toplevel.proofs.Laws.{bofs-done, bofs-more, bofs-next, bofs-less}
+use Rattle.sheets.specs.Parts.{Filled, PassedAll, NamedAll, Lefts, Windowed}
 use Rattle.sheets.specs.declared.Remaining.{Remaining}
 use Rattle.sheets.specs.declared.Remaining.the-variants as remaining
 use Rattle.sheets.specs.declared.Window.{Window}
@@ -352,63 +346,3 @@ module _ (s : List ℕ) (u from lo at : ℕ) (fault free : Agreement) (inv : Goi
         is-g ∙ ap (λ (x : Agreement). orElse free x) (windowed .last z (a .1)) ∙ inv .claims (a .0)))
 
 pub ruleset going-laws = (going-start, going-low, going-again, going-less, going-done)
-
--- ---- the next sheet
-module _ (s : List ℕ) (from p : ℕ) (r : Bound) (is : r ≡ boundAt s p) (inv : sheetsFrom s from ≡ sheetsFrom s p) where
-  pub found-sheet : (o q k n : ℕ) → r ≡ bound.Sheet o q k n → parts.Found s from (bound.Sheet o q k n)
-  found-sheet o q k n h = inv ∙ sheets-more s p r is o q k n h
-
-  pub found-skip : (n : ℕ) → r ≡ bound.Other n → sheetsFrom s from ≡ sheetsFrom s n
-  found-skip n h = inv ∙ sheets-skip s p r is n h
-
-  pub found-done : r ≡ bound.Done → parts.Found s from bound.Done
-  found-done h = inv ∙ sheets-done s p r is h
-
-pub ruleset found-laws = (found-sheet, found-skip, found-done, sheets-less, skip-less)
-
--- ---- the sheets followed in the walk
-pub lost : (s : List ℕ) (p at k n : ℕ) → n ≡ length s + 1 → Followed s p at k n
-lost s p at k n e = record { within = λ l. absurd (omega arith); next = λ l. absurd (omega arith) }
-
-pub follow-next : (s : List ℕ) (p at j o q k n q′ : ℕ) (r : Bound) → parts.Found s p r → r ≡ bound.Sheet o q k n → p ≤ length s → q′ ≡ q → q′ ≡ at → k ≡ j → Followed s p at j n
-follow-next s p at j o q k n q′ r f h l w e g =
-    let f′ : parts.Found s p (bound.Sheet o q k n) = subst (parts.Found s p) h f in record {
-      within = λ i. l;
-      next =
-          λ i. record {
-            header = o;
-            is = f′ ∙ ap (λ (x : ℕ). record { header = o; position = x; kind = k } ∷ sheetsFrom s n) (sym w ∙ e) ∙ ap (λ (x : ℕ). record { header = o; position = at; kind = x } ∷ sheetsFrom s n) g;
-          };
-    }
-
-pub ruleset follow-laws = (lost, follow-next)
-
-abbrev Ordered : List ℕ → ℕ → ℕ → ℕ → ℕ → Type 0
-Ordered s u from p at = list.Ordered (sheetsOf s) (sheetsFrom s p) (bofsFrom s u from) (bofsFrom s u at) at
-
-pub record Follows (s : List ℕ) (u from p at : ℕ) : Type 0 where
-  pub ordered : p ≤ length s → Ordered s u from p at
-
-pub follows-start : (s : List ℕ) (u from : ℕ) → Follows s u from 20 from
-follows-start s u from = record { ordered = λ l. list.order-start (sheetsOf s) (bofsFrom s u from) from }
-
-module _ (s : List ℕ) (u from p at : ℕ) (r : Top) (is : r ≡ topOf s at) (inv : Follows s u from p at) where
-  pub follows-again : (k e : ℕ) (a : Ended) (j n : ℕ) → r ≡ top.Open k → a ≡ substreamIn 4 s u k at → a ≡ ended.At e → j ≡ bofKind k → Followed s p at j n → Follows s u from n e
-  follows-again k e a j n h i d g f =
-      let here : found.Bof (bofKind k) e ≡ bofAt s u at = by-open s u at k (found.Bof (bofKind k) e) is h i d refl in
-      let far = bofs-next s u at (found.Bof (bofKind k) e) here (bofKind k) e refl in record {
-        ordered =
-            λ l. (let x : NextSheet s p at j n = f .next l in
-            list.order-again (sheetsOf s) (bofsFrom s u from) (bofsFrom s u e) at (bofKind k) (sheetsFrom s n) (x .header) at j
-            (rw (x .is, bofs-more s u at (found.Bof (bofKind k) e) here (bofKind k) e refl) at (inv .ordered (f .within l))) refl g e (omega arith));
-      }
-
-  pub follows-done : r ≡ top.Done → Ends s u from p
-  follows-done h =
-      let here : found.None ≡ bofAt s u at = by-top s u at found.None is h refl in
-      record { agree = λ l n. list.order-done (sheetsOf s) (bofsFrom s u from) at (rw (n, bofs-done s u at found.None here refl) at (inv .ordered l)) }
-
-pub ruleset follows-laws = (follows-start, follows-again, follows-done)
-
-pub settled-agree : (s : List ℕ) (u from p : ℕ) (r : Bound) → Ends s u from p → p ≤ length s → parts.Found s p r → r ≡ bound.Done → Agree ≡ agreementOf (sheetsOf s) (bofsFrom s u from)
-settled-agree s u from p r e l f h = let f′ : parts.Found s p bound.Done = subst (parts.Found s p) h f in e .agree l f′

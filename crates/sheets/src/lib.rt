@@ -8,7 +8,8 @@ ghost use Rattle.sheetlist.specs.Agreement.{agreementOf};
 ghost use Rattle.sheetlist.specs.Slots.{Marked, Empty};
 ghost use Rattle.globals.specs.Sheets.{sheetsOf};
 ghost use Rattle.toplevel.specs.TopLevel.{bofsFrom};
-ghost use Rattle.sheets.specs.Parts.{Filled, PassedAll, Lefts, Windowed, Found, Followed, Ends, Tailed};
+ghost use Rattle.sheets.specs.Parts.{Filled, PassedAll, Lefts, Windowed};
+ghost use Rattle.sheets.specs.Tops.{sheetFrom, followed, tailOf};
 use globals::Bound;
 use sheetlist::Agreement;
 use substream::Ended;
@@ -186,7 +187,7 @@ fn by_slots(s: &[u8], unique: u32, from: usize) -> Agreement
 
 // The next BOUNDSHEET from a place on.
 fn sheet_from(s: &[u8], from: usize) -> Bound
-    ensures { λ r. ⌜ Found (now (s .entry)) from r ⌝ }
+    ensures { λ r. ⌜ r ≡ sheetFrom (now (s .entry)) from ⌝ }
 {
     let mut p = from;
     loop {
@@ -217,7 +218,7 @@ fn sheet_from(s: &[u8], from: usize) -> Bound
 // The place after the next sheet, if it names the BOF at `at` with its kind; else, and from then on, one past the stream's length.
 fn follow(s: &[u8], p: usize, at: usize, of: u32) -> usize
     requires { ⌜ length (now s) ≤ 16777216 ⌝ }
-    ensures { λ r. ⌜ Followed (now (s .entry)) p at of r ⌝ }
+    ensures { λ r. ⌜ r ≡ followed (now (s .entry)) p at of ⌝ }
 {
     let lost = s.len() + 1;
     if s.len() < p {
@@ -246,7 +247,7 @@ fn follow(s: &[u8], p: usize, at: usize, of: u32) -> usize
 // The top-level substreams after the globals; the sheets are followed as the BOFs come by.
 pub fn tops(s: &[u8], unique: u32, from: usize) -> Tail
     requires { ⌜ length (now s) ≤ 16777216 ⌝ }
-    ensures { λ r. ⌜ Tailed (now (s .entry)) unique from r ⌝ }
+    ensures { λ r. ⌜ r ≡ tailOf (now (s .entry)) unique from ⌝ }
 {
     let mut at = from;
     let mut p: usize = 20;
@@ -273,7 +274,7 @@ pub fn tops(s: &[u8], unique: u32, from: usize) -> Tail
 
 // Sheets that named the BOFs in their order need no slots.
 pub fn settled(s: &[u8], unique: u32, from: usize, p: usize) -> Agreement
-    requires { ⌜ (length (now s) ≤ 16777216) × Ends (now s) unique from p ⌝ }
+    requires { ⌜ Tail.Passed p ≡ tailOf (now s) unique from ⌝ }
     ensures { λ r. ⌜ r ≡ agreementOf (sheetsOf (now (s .entry))) (bofsFrom (now (s .entry)) unique from) ⌝ }
 {
     if s.len() < p {

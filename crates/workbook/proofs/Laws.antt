@@ -24,7 +24,8 @@ use Rattle.toplevel.specs.declared.Walked.the-variants as walked
 use Rattle.toplevel.specs.TopLevel.{topsFrom, bofsFrom}
 use Rattle.sheets.specs.declared.Tail.{Tail}
 use Rattle.sheets.specs.declared.Tail.the-variants as tail
-use Rattle.sheets.specs.Parts.{Ends, Tailed}
+use Rattle.sheets.specs.Tops.{tailOf}
+use Rattle.sheets.proofs.Following.{Tailed, tail-says}
 use Rattle.workbook.specs.declared.Checked.{Checked}
 use Rattle.workbook.specs.declared.Checked.the-variants.{Right, Wrong}
 use Rattle.workbook.specs.declared.Answer.{Answer}
@@ -45,23 +46,21 @@ module _ (s : List ℕ) (u : ℕ) where
     pub globals-wrong : (n o : ℕ) → r ≡ globals.Refused n o → Wrong n o ≡ checkedOf s u
     globals-wrong n o h = by-globals _ _ h refl
 
-    module _ (g : Globals) (h : r ≡ globals.At g) (t : Tail) (walk : Tailed s (g .unique) (g .at) t) where
+    module _ (g : Globals) (h : r ≡ globals.At g) (t : Tail) (walk : t ≡ tailOf s (g .unique) (g .at)) where
+      says : (x : Tail) → t ≡ x → Tailed s (g .unique) (g .at) x
+      says x i = subst (Tailed s (g .unique) (g .at)) (sym walk ∙ i) (tail-says s (g .unique) (g .at))
+
       pub tops-wrong : (n o : ℕ) → t ≡ tail.Refused n o → Wrong n o ≡ checkedOf s u
-      tops-wrong n o i =
-          let w : walked.Refused n o ≡ topsFrom s (g .unique) (g .at) = subst (Tailed s (g .unique) (g .at)) i walk in
-          by-globals _ _ h (ap (onWalked s g) w)
+      tops-wrong n o i = by-globals _ _ h (ap (onWalked s g) (says (tail.Refused n o) i))
 
       module _ (p : ℕ) (i : t ≡ tail.Passed p) where
-        walks : (walked.Passed ≡ topsFrom s (g .unique) (g .at)) × Ends s (g .unique) (g .at) p
-        walks = subst (Tailed s (g .unique) (g .at)) i walk
-
-        pub tops-ends : Ends s (g .unique) (g .at) p
-        tops-ends = walks .1
+        pub tops-passed : tail.Passed p ≡ tailOf s (g .unique) (g .at)
+        tops-passed = sym i ∙ walk
 
         pub all-agreed : (a x : Agreement) → a ≡ agreementOf (sheetsOf s) (bofsFrom s (g .unique) (g .at)) → a ≡ x → (y : Checked) → y ≡ agreed g x → y ≡ checkedOf s u
-        all-agreed a x j l y e = by-globals _ _ h (e ∙ ap (agreed g) (sym l ∙ j) ∙ ap (onWalked s g) (walks .0))
+        all-agreed a x j l y e = by-globals _ _ h (e ∙ ap (agreed g) (sym l ∙ j) ∙ ap (onWalked s g) (says (tail.Passed p) i .0))
 
-pub ruleset check-laws = (too-long, globals-wrong, tops-wrong, tops-ends, all-agreed)
+pub ruleset check-laws = (too-long, globals-wrong, tops-wrong, tops-passed, all-agreed)
 
 -- a stream that passes is not too long
 short-by : (s : List ℕ) (u : ℕ) (g : Globals) → Right g ≡ checkedOf s u → length s ≤ 16777216

@@ -1,4 +1,4 @@
-use Rattle.sheets.proofs.Laws.{follow-laws}
+use Rattle.sheets.proofs.Following.{follow-laws}
 use borrow.Author.Needs.{needs}
 use Rattle.sheets.proofs.follow.Statement.{statement}
 use Rattle.sheets.proofs.follow.Tie as tie

@@ -1,4 +1,4 @@
-use Rattle.sheets.proofs.Laws.{settled-agree}
+use Rattle.sheets.proofs.Following.{settled-agree}
 use borrow.Author.Needs.{needs}
 use Rattle.sheets.proofs.settled.Statement.{statement}
 use Rattle.sheets.proofs.settled.Tie as tie

@@ -1,6 +1,6 @@
 use borrow.Author.Needs.{needs}
-use Rattle.sheets.proofs.Laws.{found-laws}
-use Rattle.globals.specs.Sheets.{sheetsFrom}
+use Rattle.sheets.proofs.Following.{from-laws}
+use Rattle.sheets.specs.Tops.{sheetFrom}
 use mathlib.Core.Path.{_≡_, refl}
 use Prim.Native.Nat.{_-_}
 use lib.ListN.{length}
@@ -8,7 +8,7 @@ use Rattle.sheets.proofs.sheet_from.Statement.{statement}
 use Rattle.sheets.proofs.sheet_from.Tie as tie
 
 abbrev Inv-loop : tie.InvT-loop
-Inv-loop s from p₀ p = sheetsFrom s from ≡ sheetsFrom s p
+Inv-loop s from p₀ p = sheetFrom s from ≡ sheetFrom s p
 
 abbrev μ-loop : tie.MeasureT-loop
 μ-loop s from p₀ p = length s - p
@@ -18,20 +18,20 @@ sheet-from-spec =
     tie.close
     (tie.spec Inv-loop μ-loop
     -- loop-holds
-    (λ c. search (found-laws, needs))
+    (λ c. search (from-laws, needs))
     -- bound-at-requires
-    (λ c κs. search (found-laws, needs))
+    (λ c κs. search (from-laws, needs))
     -- enum-known-header
     (λ c. search needs)
     -- returns
-    (λ c. search (found-laws, needs))
+    (λ c. search (from-laws, needs))
     -- enum-known-next
     (λ c. search needs)
     -- loop-less
-    (λ c. search (found-laws, needs))
+    (λ c. search (from-laws, needs))
     -- loop-again
-    (λ c. search (found-laws, needs))
+    (λ c. search (from-laws, needs))
     -- enum-told
     (λ c. search needs)
     -- returns-2
-    (λ c. search (found-laws, needs)))
+    (λ c. search (from-laws, needs)))

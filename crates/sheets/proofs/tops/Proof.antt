@@ -1,7 +1,6 @@
 use borrow.Author.Needs.{needs}
-use Rattle.sheets.proofs.Laws.{Follows, follows-laws}
-use Rattle.toplevel.proofs.Laws.{tops-laws}
-use Rattle.toplevel.specs.TopLevel.{topsFrom}
+use Rattle.sheets.specs.Tops.{tailFrom, tailOf}
+use Rattle.sheets.proofs.Following.{tail-laws}
 use mathlib.Core.Path.{_≡_, refl}
 use Prim.Native.Nat.{_-_}
 use lib.ListN.{length}
@@ -9,7 +8,7 @@ use Rattle.sheets.proofs.tops.Statement.{statement}
 use Rattle.sheets.proofs.tops.Tie as tie
 
 abbrev Inv-loop : tie.InvT-loop
-Inv-loop s unique from at₀ p₀ at p = (topsFrom s unique from ≡ topsFrom s unique at) × Follows s unique from p at
+Inv-loop s unique from at₀ p₀ at p = tailOf s unique from ≡ tailFrom s unique (record { at = at; sheets = p })
 
 abbrev μ-loop : tie.MeasureT-loop
 μ-loop s unique from at₀ p₀ at p = length s - at
@@ -19,32 +18,32 @@ tops-spec =
     tie.close
     (tie.spec Inv-loop μ-loop
     -- loop-holds
-    (λ c. search (follows-laws, tops-laws, needs))
+    (λ c. search (tail-laws, needs))
     -- top-at-requires
-    (λ c κs. search (follows-laws, tops-laws, needs))
+    (λ c κs. search (tail-laws, needs))
     -- enum-known-kind
     (λ c. search needs)
     -- walk-requires
-    (λ c κs. search (follows-laws, tops-laws, needs))
+    (λ c κs. search (tail-laws, needs))
     -- enum-known-end
     (λ c. search needs)
     -- bof-kind-requires
-    (λ c κs. search (follows-laws, tops-laws, needs))
+    (λ c κs. search (tail-laws, needs))
     -- follow-requires
-    (λ c κs. search (follows-laws, tops-laws, needs))
+    (λ c κs. search (tail-laws, needs))
     -- loop-less
-    (λ c. search (follows-laws, tops-laws, needs))
+    (λ c. search (tail-laws, needs))
     -- loop-again
-    (λ c. search (follows-laws, tops-laws, needs))
+    (λ c. search (tail-laws, needs))
     -- enum-known-number
     (λ c. search needs)
     -- returns
-    (λ c. search (follows-laws, tops-laws, needs))
+    (λ c. search (tail-laws, needs))
     -- enum-told
     (λ c. search needs)
     -- returns-2
-    (λ c. search (follows-laws, tops-laws, needs))
+    (λ c. search (tail-laws, needs))
     -- enum-known-number-2
     (λ c. search needs)
     -- returns-3
-    (λ c. search (follows-laws, tops-laws, needs)))
+    (λ c. search (tail-laws, needs)))

@@ -1,4 +1,4 @@
-use Rattle.workbook.proofs.Laws.{check-laws, tops-ends}
+use Rattle.workbook.proofs.Laws.{check-laws}
 use borrow.Author.Needs.{needs}
 use Rattle.workbook.proofs.check_with.Statement.{statement}
 use Rattle.workbook.proofs.check_with.Tie as tie
