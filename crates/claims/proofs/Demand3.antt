@@ -46,8 +46,9 @@ use Rattle.chain.proofs.Chain.{nth-is, nth-missing, nth-either}
 use Rattle.upheld.specs.Granted.{Granted}
 use Rattle.upheld.proofs.Granted.{granted, listed-only, field-high}
 use Rattle.upheld.proofs.Upheld.{upheld, sheets-stay}
-use Rattle.reread.proofs.Reading.{reads-replaced}
-use Rattle.claims.specs.Demand3.{Corrects, Only, One, HoldsNew, OthersStay, passed, Passes, ReadsNew, takes, Unfit, Refusal, checked, no-sheet, no-cell, many, kind, value, RefusedExactly, RefusedKeeps, PackedExactly}
+use Rattle.reread.specs.Replaced.{valuesAt}
+use Rattle.reread.proofs.Reading.{reads-replaced, new-after}
+use Rattle.claims.specs.Demand3.{Corrects, Only, One, HoldsNew, OthersStay, passed, Passes, ReadsNew, OneAfter, takes, Unfit, Refusal, checked, no-sheet, no-cell, many, kind, value, RefusedExactly, RefusedKeeps, PackedExactly}
 
 -- ---- a granted correction: what was written, and into which cell
 record Made (s : List ℕ) (n row column : ℕ) (v : NewValue) (t : List ℕ) : Type 0 where
@@ -113,6 +114,11 @@ pub reads-new : ReadsNew
 reads-new s n row column v t h =
     let m = made h in
     one m (ap readingOf (m .after) ∙ reads-replaced s n row column v (m .kind) (m .place) (m .number) (h .held) (m .is))
+
+pub one-after : OneAfter
+one-after s n row column v t h =
+    let m = made h in
+    one m (ap (λ (x : List ℕ). valuesAt n row column (readingOf x)) (m .after) ∙ new-after s n row column v (m .kind) (m .place) (m .number) (h .held) (m .is))
 
 -- ---- refused exactly when the table says
 -- which row a plan meets, where t says that the kind takes the value and U that it doesn't fit

@@ -29,7 +29,7 @@ use Rattle.workbook.specs.Check.{checkedOf, checkOf}
 use Rattle.reading.specs.Reading.{listedOf, readingOf}
 use Rattle.correction.specs.Correction.{cellsAt, correctionOf, answerOf, streamAfter}
 use Rattle.chain.specs.Chain.{Nth}
-use Rattle.reread.specs.Replaced.{replaced}
+use Rattle.reread.specs.Replaced.{replaced, valuesAt}
 
 -- what `correct` ensures, clause by clause: s is the stream before the call, r the answer, t the stream after it
 pub record Corrects (s : List ℕ) (n row column : ℕ) (v : NewValue) (r : change.Answer) (t : List ℕ) : Type 0 where
@@ -79,6 +79,10 @@ Passes = Granted (λ s n row column v c t. (passed (checkOf t) ≡ true) × (che
 -- it reads the same but for that cell
 abbrev pub ReadsNew : Type 0
 ReadsNew = Granted (λ s n row column v c t. readingOf t ≡ replaced n row column (newOf v) (readingOf s))
+
+-- the address has one cell still, with the new value
+abbrev pub OneAfter : Type 0
+OneAfter = Granted (λ s n row column v c t. valuesAt n row column (readingOf t) ≡ newOf v ∷ [])
 
 -- ---- a correction is refused exactly when the table says
 -- a number goes to NUMBER, RK or MULRK, a text index to LABELSST, truth or error to BOOLERR
