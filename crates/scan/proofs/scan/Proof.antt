@@ -25,13 +25,13 @@ scan-spec =
     -- returns-2
     (λ c. search (scan-laws, needs))
     -- add-u16-at
-    (λ c. record { fits = search row-fits })
+    (λ c. record { fits = search (row-fits, first-fits) })
     -- u16-at-requires
-    (λ c κs. search row-room)
+    (λ c κs. search (row-room, first-room))
     -- add-u16-at-2
-    (λ c. record { fits = search first-fits })
+    (λ c. record { fits = search (row-fits, first-fits) })
     -- u16-at-requires-2
-    (λ c κs. search first-room)
+    (λ c κs. search (row-room, first-room))
     -- enum-told
     (λ c. search needs)
     -- enum-told-2
