@@ -1,8 +1,15 @@
--- A table entry: the least count in the lower byte and the greatest in the upper; 0xFFFF where there is no function.
-use Prim.Native.Nat.{ℕ, _+_, _*_}
+-- What only inner contracts cite: the table's entries.
+use Prim.Native.Nat.{ℕ, zero, suc, _+_, _*_}
 use Rattle.functions.specs.declared.Counts.{Counts}
 use Rattle.functions.specs.declared.Counts.the-variants.{Missing, Range}
+use Rattle.functions.specs.Counts.{countsOf}
 
-abbrev pub wordOf : Counts → ℕ
-wordOf Missing = 0xFFFF
-wordOf (Range least greatest) = least + 256 * greatest
+-- the greatest count in the lower five bits and the least in the upper three; 0xFF where there is no function
+abbrev pub entryOf : Counts → ℕ
+entryOf Missing = 0xFF
+entryOf (Range least greatest) = greatest + 32 * least
+
+-- the entries of n indices as one number, the first in the lowest byte
+unfoldable pub entriesFrom : ℕ → ℕ → ℕ
+entriesFrom zero index = 0
+entriesFrom (suc n) index = entryOf (countsOf index) + 256 * entriesFrom n (suc index)

@@ -7,15 +7,13 @@ pub counts-at-spec : {M : Type 1} → statement M
 counts-at-spec =
     tie.close
     (tie.spec
-    -- returns
-    (λ c. search entries)
-    -- word-at-requires
+    -- entry-at-requires
     (λ c κs. search needs)
-    -- returns-2
+    -- returns
     (λ c. search entries)
     -- cast-t5
     (λ c. search needs)
     -- cast-t7
     (λ c. search needs)
-    -- returns-3
+    -- returns-2
     (λ c. search entries))
