@@ -128,9 +128,9 @@ unfolding Onward Right formulaOf
 at-the-end b base depth at stack r on h e = on r (λ k l. e ∙ go (drop at b) (simp length-drop (omega arith)) k)
   where
     go : (s : List ℕ) → length s ≤ 0 → (k : ℕ) → atEnd stack (base + at) ≡ formulaOf k s (base + at) stack depth
-    go s p zero = refl
+    go [] p zero = refl
     go [] p (suc k) = refl
-    go (x ∷ s) p (suc k) = absurd (omega arith)
+    go (x ∷ s) p k = absurd (omega arith)
 
 module _ (b : List ℕ) (at stack : ℕ) (some : at < length b) (s : Step) (size left : ℕ) (within : StepWithin (length (take (length b - at) (drop at b))) stack s) (e : s ≡ Next size left) where
   next-facts : (1 ≤ size) × (at + size ≤ length b) × (left ≤ stack + 1)

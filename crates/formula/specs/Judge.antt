@@ -26,9 +26,10 @@ onToken inner rest offset stack (Memory size head) = ifAccepted (inner head size
 onToken inner rest offset stack (Invalid number) = Refused number offset
 
 -- a formula from one of its tokens on, which stands at `offset` of the outermost bytes, over `stack` operands and inside `depth` memory tokens.
--- The first number bounds how many tokens are left: each has a byte at least
+-- The first number bounds how many tokens are left: each has a byte at least, so that none is left where it is used up
 unfoldable pub formulaOf : ℕ → List ℕ → ℕ → ℕ → ℕ → Judgement
-formulaOf zero t offset stack depth = atEnd stack offset
+formulaOf zero [] offset stack depth = atEnd stack offset
+formulaOf zero (b ∷ t) offset stack depth = Refused 13 offset
 formulaOf (suc k) [] offset stack depth = atEnd stack offset
 formulaOf (suc k) (b ∷ t) offset stack depth =
     onToken
