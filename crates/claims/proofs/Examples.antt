@@ -7,8 +7,8 @@ use Rattle.number.specs.Rounding.{rounded, digits}
 use Rattle.number.specs.Float64.{bitsOf}
 use Rattle.number.specs.Rk.{rkBits, quotientBits, rkSign, rkSize, meansNothing, rkOf}
 use Rattle.number.specs.Packing.{packOf, wholeForm}
-use Rattle.functions.specs.Counts.{countsOf}
-use Rattle.formula.specs.Tokens.{operandOf, wholeOf, textOf, attributeOf, baseOf, columnClear, referenceOf, areaOf, fixedOf, variableOf, memoryOf, innerOf, classifiedOf, tokenOf}
+use Rattle.functions.specs.Counts.{functions, countsOf}
+use Rattle.formula.specs.Tokens.{operandOf, wholeOf, textOf, attributeOf, baseOf, columnClear, referenceOf, areaOf, fixedOf, calledOf, variableOf, memoryOf, innerOf, classifiedOf, tokenOf}
 use Rattle.formula.specs.Judge.{atEnd, formulaOf, judgeOf}
 use Rattle.record.specs.Record.{headerAt}
 use Rattle.segments.specs.Segments.{continues, nextSegment, filled, need, room, items}
@@ -16,5 +16,5 @@ use Rattle.strings.specs.Table.{runsAt, phoneticAt, headAt, startSize, head, re
 use Rattle.claims.specs.Examples.{examples, AllAnswered}
 
 pub all-answered : AllAnswered
-unfolding examples pick isNan ofFields ofBits toBits numAt rounded digits bitsOf rkBits quotientBits rkSign rkSize meansNothing rkOf packOf wholeForm operandOf wholeOf textOf attributeOf baseOf columnClear referenceOf areaOf fixedOf variableOf memoryOf innerOf classifiedOf tokenOf atEnd formulaOf judgeOf headerAt continues nextSegment filled need room items runsAt phoneticAt headAt startSize head rest stringAt nextPlace strings tableOf
+unfolding examples pick isNan ofFields ofBits toBits numAt rounded digits bitsOf rkBits quotientBits rkSign rkSize meansNothing rkOf packOf wholeForm operandOf wholeOf textOf attributeOf baseOf columnClear referenceOf areaOf fixedOf calledOf variableOf countsOf functions memoryOf innerOf classifiedOf tokenOf atEnd formulaOf judgeOf headerAt continues nextSegment filled need room items runsAt phoneticAt headAt startSize head rest stringAt nextPlace strings tableOf
 all-answered = refl

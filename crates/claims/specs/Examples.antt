@@ -1,4 +1,4 @@
--- The worked examples of document 01 that are marked to be proved: one table of questions with their answers.
+-- The worked examples of document 01 that are marked to be proved, and some of the change requests: one table of questions with their answers.
 use Prim.Native.Nat.{ℕ, _+_}
 use mathlib.Core.Path.{_≡_}
 use mathlib.Core.List.{List, [], _∷_, _++_, map}
@@ -83,6 +83,7 @@ examples =
     ∷ (formula (0x03 ∷ []) ⟶ refused 14 0)
     ∷ (formula (0x1E ∷ 0x01 ∷ 0x00 ∷ 0x1E ∷ 0x01 ∷ 0x00 ∷ []) ⟶ refused 14 6)
     ∷ (formula (0x29 ∷ 0x03 ∷ 0x00 ∷ 0x1E ∷ 0x01 ∷ 0x00 ∷ []) ⟶ accepted)
+    ∷ (formula (0x42 ∷ 0x00 ∷ 0xDD ∷ 0x00 ∷ []) ⟶ accepted)
     ∷ (strings (sst ++ continuation) ⟶ units ((0x0041 ∷ 0x03A9 ∷ []) ∷ []))
     ∷ []
 

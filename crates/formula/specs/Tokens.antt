@@ -96,16 +96,15 @@ fixedOf t = uncut 3 t (fixedBy (countsOf (u16At t 1)))
 
 unfoldable pub calledOf : ℕ → ℕ → ℕ → Token
 calledOf least greatest count =
-    pick (eqb least greatest) (Invalid 15)
-    (pick (ltb count least) (Invalid 15)
+    pick (ltb count least) (Invalid 15)
     (pick (ltb greatest count) (Invalid 15)
-    (Plain 4 count 1)))
+    (Plain 4 count 1))
 
 abbrev pub variableBy : ℕ → Counts → Token
 variableBy count Missing = Invalid 15
 variableBy count (Range least greatest) = calledOf least greatest count
 
--- 0x22: count byte, whose upper bit is ignored, and index. The least and greatest counts differ, and the count is within them
+-- 0x22: count byte, whose upper bit is ignored, and index. The count is within the function's least and greatest, which may be equal
 unfoldable pub variableOf : List ℕ → Token
 variableOf t = uncut 4 t (variableBy (byteAt t 1 % 128) (countsOf (u16At t 2)))
 

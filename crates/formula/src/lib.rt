@@ -210,9 +210,6 @@ fn fixed_function(t: &[u8]) -> Token
 fn called(least: u8, greatest: u8, count: u8) -> Token
     ensures { λ r. ⌜ r ≡ calledOf least greatest count ⌝ }
 {
-    if least == greatest {
-        return Token::Invalid(15);
-    }
     if count < least {
         return Token::Invalid(15);
     }

@@ -98,7 +98,7 @@ fn token(rest: &[u8], whole: bool) -> Result<Token, u8> {
 fn classed(first: u8, data: &[u8]) -> Result<Token, u8> {
     match first {
         0x21 => fixed_function(data),
-        0x22 => variable_function(data),
+        0x22 => counted_function(data),
         0x23 | 0x2A | 0x2C => operand(data, 4),
         0x24 => reference(data, 4, &[2]),
         0x25 => reference(data, 8, &[4, 6]),
@@ -192,13 +192,14 @@ fn fixed_function(data: &[u8]) -> Result<Token, u8> {
     }
 }
 
-/// The upper bit of the count is ignored; with the upper bit of the index set
-/// it is over every index of the table.
-fn variable_function(data: &[u8]) -> Result<Token, u8> {
+/// A function with the count that it is given here. Some writers use this token
+/// for a function of a fixed count too. The upper bit of the count is ignored;
+/// with the upper bit of the index set it is over every index of the table.
+fn counted_function(data: &[u8]) -> Result<Token, u8> {
     let index = word(data, 1)?;
     let count = byte(data, 0)? & 0x7F;
     match argument_counts(index) {
-        Some((least, greatest)) if least < greatest && (least..=greatest).contains(&count) => {
+        Some((least, greatest)) if (least..=greatest).contains(&count) => {
             step(data, 3, usize::from(count))
         }
         _ => Err(15),

@@ -751,7 +751,6 @@ fn a40_functions() {
     assert_eq!(variable(1, 255 | 0x8000), Err(15));
     assert_eq!(variable(1, 368), Err(15));
     assert_eq!(variable(1, 367), Ok(()));
-    assert_eq!(variable(1, 15), Err(15));
     let fixed = |count, index: u16| {
         let [low, high] = index.to_le_bytes();
         judge(&after_operands(count, &[0x21, low, high])).map_err(|r| (r.number, r.offset))

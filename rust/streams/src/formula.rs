@@ -154,9 +154,14 @@ impl Maker {
         tokens.push(rng.between(0x03, 0x11) as u8);
     }
 
+    /// A function of a fixed count, as some writers also put it down: with its
+    /// count before the index.
     fn fixed_function(&mut self, rng: &mut Rng, tokens: &mut Vec<u8>) {
         let (index, count) = rng.pick(&functions().fixed);
         self.arguments(rng, tokens, count);
+        if rng.percent(30) {
+            return append_counted(rng, tokens, index, count);
+        }
         tokens.push(classed(rng, 0x21));
         tokens.extend(index.to_le_bytes());
     }
@@ -169,10 +174,7 @@ impl Maker {
             _ => rng.mostly_small(least, greatest),
         };
         self.arguments(rng, tokens, count);
-        // The upper bit of the count is ignored.
-        let ignored = if rng.percent(10) { 0x80 } else { 0 };
-        tokens.extend([classed(rng, 0x22), count as u8 | ignored]);
-        tokens.extend(index.to_le_bytes());
+        append_counted(rng, tokens, index, count);
     }
 
     fn arguments(&mut self, rng: &mut Rng, tokens: &mut Vec<u8>, count: usize) {
@@ -191,6 +193,14 @@ impl Maker {
         self.depth -= 1;
         memory(rng, tokens, &inner);
     }
+}
+
+/// Appends a function token that has its count in it.
+fn append_counted(rng: &mut Rng, tokens: &mut Vec<u8>, index: u16, count: usize) {
+    // The upper bit of the count is ignored.
+    let ignored = if rng.percent(10) { 0x80 } else { 0 };
+    tokens.extend([classed(rng, 0x22), count as u8 | ignored]);
+    tokens.extend(index.to_le_bytes());
 }
 
 /// Appends a memory token with its inner formula.
@@ -311,19 +321,27 @@ fn thrown_together(rng: &mut Rng) -> Vec<u8> {
 
 /// A function token with any index and count, near the table or in it.
 fn append_function(rng: &mut Rng, tokens: &mut Vec<u8>) {
-    let index = match rng.below(4) {
-        0 => rng.pick(&[255, 367, 368, 0x8000, 0x80FF, 0xFFFF, 202, 216]),
-        1 => rng.pick(&functions().fixed).0,
-        2 => rng.pick(&functions().variable).0,
-        _ => rng.below(400) as u16,
+    let any_count = rng.mostly_small(0, 255);
+    let (index, count) = match rng.below(4) {
+        0 => {
+            let index = rng.pick(&[255, 367, 368, 0x8000, 0x80FF, 0xFFFF, 202, 216]);
+            (index, any_count)
+        }
+        1 => {
+            let (index, count) = rng.pick(&functions().fixed);
+            let upper_bit = if rng.percent(15) { 0x8000 } else { 0 };
+            let beside = rng.pick(&[count, count, count + 1, count.saturating_sub(1), any_count]);
+            (index | upper_bit, beside)
+        }
+        2 => (rng.pick(&functions().variable).0, any_count),
+        _ => (rng.below(400) as u16, any_count),
     };
-    if rng.percent(50) {
+    if rng.percent(40) {
         tokens.push(classed(rng, 0x21));
+        tokens.extend(index.to_le_bytes());
     } else {
-        tokens.push(classed(rng, 0x22));
-        tokens.push(rng.mostly_small(0, 255) as u8);
+        append_counted(rng, tokens, index, count);
     }
-    tokens.extend(index.to_le_bytes());
 }
 
 /// A valid formula with one to three small damages.

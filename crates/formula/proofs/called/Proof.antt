@@ -13,9 +13,7 @@ called-spec =
     (λ c. search picks depth 8)
     -- returns-2
     (λ c. search picks depth 8)
-    -- returns-3
-    (λ c. search picks depth 8)
     -- byte-as-usize-requires
     (λ c κs. search needs)
-    -- returns-4
+    -- returns-3
     (λ c. search picks depth 8))
