@@ -68,8 +68,8 @@ struct station_units { uint8_t number; size_t offset; size_t units; };
  * without another check: sheet for station_next_sheet; segment, at and end for station_next_string */
 struct station_check station_check(const uint8_t *stream, size_t length);
 
-/* judge: a formula's token bytes */
-struct station_answer station_judge(const uint8_t *tokens, size_t length);
+/* judge: a formula's token bytes, and the bytes after them, whose offsets are counted on from the tokens' end */
+struct station_answer station_judge(const uint8_t *tokens, size_t length, const uint8_t *trailing, size_t trailing_length);
 
 /* fetch: the units of a shared string at the front of the buffer; later units stay. room is the buffer's length in units. */
 struct station_units station_fetch(const uint8_t *stream, size_t length, uint32_t index, uint16_t *units, size_t room);
@@ -92,7 +92,9 @@ uint32_t station_rows(const uint8_t *stream, size_t length, size_t at, uint16_t 
 /* list: the cells of a sheet, as many at a time as the buffer has room for, four words each:
  *   row, column, format and the value's kind, 16 bits each from the lowest;
  *   the value: a number's 64 bits, a text's index, a truth or an error code, else 0;
- *   the offset of the value field; the number of a formula's token bytes, which start 16 bytes after it.
+ *   the offset of the value field;
+ *   the number of a formula's token bytes, which start 16 bytes after the value field, and of the bytes after them to the
+ *   record's end, 16 bits each from the lowest.
  * Kinds: 0 blank, 1 number, 2 text, 3 truth, 4 error; a formula's result: 5 number, 6 text, 7 truth, 8 error, 9 empty.
  * A blank's value field is its format.
  * room is the buffer's length in words; words after the cells that were written stay. The list ended, or goes on at the place at,

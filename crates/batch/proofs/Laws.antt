@@ -46,7 +46,7 @@ module _ (s b₀ : List ℕ) (v₀ : Place) (m : ℕ) (b : List ℕ) (v : Place)
   at-end : n < m → nextOf s v ≡ listed.End → record { words = b; cells = n; ended = true; place = placeAt 0 0 } ≡ filledFrom s v₀ b₀
   unfolding filled
   at-end l i =
-      ap (onListed (λ c w. filled (m - (n + 1)) s w (n + 1) (sets b (4 * n) (wordsOf c))) (record { words = b; cells = n; ended = true; place = placeAt 0 0 })) (sym i)
+      ap (onListed (λ c w. filled (m - (n + 1)) s w (n + 1) (sets b (4 * n) (wordsOf s c))) (record { words = b; cells = n; ended = true; place = placeAt 0 0 })) (sym i)
       ∙ (let e : suc (m - (n + 1)) ≡ m - n = omega arith in ap (λ (k : ℕ). filled k s v n b) e) ∙ inv .same
 
   pub full-seen : m ≤ n → _≡_ {A = Filled} (record { cells = n; ended = false; place = v }) (filledSeen (filledFrom s v₀ b₀))

@@ -6,24 +6,26 @@ use native.Mathlib.Omega.{arith}
 use native.Mathlib.Nat.{suc-mul, mul-le-mul-right}
 use lib.ListN.{length}
 use lib.Seq.{sets, length-sets}
-use Rattle.walk.proofs.Choice.{refl′}
+use Rattle.walk.specs.Choice.{pick}
+use Rattle.walk.proofs.Choice.{pick-nlt, refl′}
 use Rattle.le.specs.Bytes.{u16At, numAt}
 use Rattle.value.specs.declared.Field.{Field}
 use Rattle.value.specs.declared.FormulaResult.{FormulaResult}
 use Rattle.value.specs.Value.{widthOf, resultOf, valueOf}
 use Rattle.cell.specs.declared.Shape.{Shape}
 use Rattle.cell.specs.declared.Shape.the-variants.{BLANK, FORMULA, OTHER}
-use Rattle.cell.specs.Cells.{shapeOf, fieldOf, partOf, startOf, firstAt, sized, multiple, lengthAt, countOf, tokensAt, cellOf}
+use Rattle.cell.specs.Cells.{shapeOf, fieldOf, partOf, startOf, firstAt, sized, multiple, lengthAt, countOf, noTokens, tokensAt, cellOf}
 use Rattle.cell.proofs.Sizes.{sizeOf, size-none, size-one, formula-none, length-none, length-one, multiple-below}
+use Rattle.reading.specs.Reading.{trailingSize}
 use Rattle.batch.specs.declared.Said.{Said}
-use Rattle.batch.specs.Batch.{resultKind, resultWord, valueKind, valueWord, wordsOf}
+use Rattle.batch.specs.Batch.{resultKind, resultWord, valueKind, valueWord, sizesWord, wordsOf}
 use Rattle.batch.specs.Parts.{oneWords, partsIn, PartRoom, PartsRoom, Put}
 use Rattle.batch.proofs.Words.{written}
 
 -- ---- a record of one cell: its cell is put, or it has none here
-pub one-put : (s : List ℕ) (at n : ℕ) (x : Said) (field tokens length : ℕ) (b : List ℕ) {d : List ℕ} {row column format head : ℕ} → row ≡ u16At s (at + 4) → column ≡ u16At s (at + 6) → format ≡ u16At s (at + 8) → length ≡ tokens
-    → head ≡ row + column * 65536 + format * 4294967296 + x .kind * 281474976710656 → d ≡ sets b (4 * n) (head ∷ x .word ∷ field ∷ length ∷ []) → d ≡ sets b (4 * n) (oneWords s at x field tokens)
-one-put s at n x field tokens length b r c o l h e = e ∙ ap (sets b (4 * n)) (λ j. (h ∙ (λ y. r y + c y * 65536 + o y * 4294967296 + x .kind * 281474976710656)) j ∷ x .word ∷ field ∷ l j ∷ [])
+pub one-put : (s : List ℕ) (at n : ℕ) (x : Said) (field sizes : ℕ) (b : List ℕ) {d : List ℕ} {row column format head : ℕ} → row ≡ u16At s (at + 4) → column ≡ u16At s (at + 6) → format ≡ u16At s (at + 8)
+    → head ≡ row + column * 65536 + format * 4294967296 + x .kind * 281474976710656 → d ≡ sets b (4 * n) (head ∷ x .word ∷ field ∷ sizes ∷ []) → d ≡ sets b (4 * n) (oneWords s at x field sizes)
+one-put s at n x field sizes b r c o h e = e ∙ ap (sets b (4 * n)) (λ j. (h ∙ (λ y. r y + c y * 65536 + o y * 4294967296 + x .kind * 281474976710656)) j ∷ x .word ∷ field ∷ sizes ∷ [])
 
 module _ (s : List ℕ) (h : Shape) (at z k n : ℕ) (b : List ℕ) where
   put-none : countOf h s at z ≡ 0 → Put s h at z k n 1 b 0 0 b
@@ -39,8 +41,8 @@ module _ (s : List ℕ) (h : Shape) (at z k n : ℕ) (b : List ℕ) where
         later zero o = absurd (o refl)
         later (suc k) o = omega arith
 
-    module _ (first : k ≡ 0) (x : Said) (field length m : ℕ) {d : List ℕ} (put : d ≡ sets b (4 * n) (oneWords s at x field length)) where
-      put-there : m ≡ numAt s (widthOf (fieldOf h)) (at + 8 + startOf (fieldOf h)) → x .kind ≡ valueKind (valueOf (fieldOf h) m) → x .word ≡ valueWord (valueOf (fieldOf h) m) → field ≡ at + 8 + startOf (fieldOf h) → length ≡ tokensAt (fieldOf h) s (at + 8) .length → Put s h at z k n 1 b 1 1 d
+    module _ (first : k ≡ 0) (x : Said) (field sizes m : ℕ) {d : List ℕ} (put : d ≡ sets b (4 * n) (oneWords s at x field sizes)) where
+      put-there : m ≡ numAt s (widthOf (fieldOf h)) (at + 8 + startOf (fieldOf h)) → x .kind ≡ valueKind (valueOf (fieldOf h) m) → x .word ≡ valueWord (valueOf (fieldOf h) m) → field ≡ at + 8 + startOf (fieldOf h) → sizes ≡ sizesWord s (tokensAt (fieldOf h) s (at + 8)) → Put s h at z k n 1 b 1 1 d
       unfolding partsIn
       put-there u i w p t =
           record {
@@ -49,7 +51,7 @@ module _ (s : List ℕ) (h : Shape) (at z k n : ℕ) (b : List ℕ) where
             some = λ l. omega arith;
             fits = omega arith;
             words =
-                written s (fieldOf h) n b at k (u16At s (at + 4)) (u16At s (at + 6)) (at + 8) m (u16At s (at + 8)) (x .kind) (x .word) field length _ d refl (omega arith) (start k first) refl u i w p t refl put
+                written s (fieldOf h) n b at k (u16At s (at + 4)) (u16At s (at + 6)) (at + 8) m (u16At s (at + 8)) (x .kind) (x .word) field sizes _ d refl (omega arith) (start k first) refl u i w p t refl put
                 ∙ (let j : suc zero ≡ 1 - k = omega arith in ap (λ (y : ℕ). partsIn s (fieldOf h) at k y n b) j);
           }
         where
@@ -66,13 +68,19 @@ module _ (s : List ℕ) (h : Shape) (at z k n : ℕ) (b : List ℕ) (one : count
     put-later o = put-past s h at z k n b (size-one s h at z one size) o
 
     pub put-first : k ≡ 0 → (x : Said) (field m : ℕ) {d : List ℕ} → d ≡ sets b (4 * n) (oneWords s at x field 0) → m ≡ numAt s (widthOf (fieldOf h)) (at + 8 + startOf (fieldOf h)) → x .kind ≡ valueKind (valueOf (fieldOf h) m) → x .word ≡ valueWord (valueOf (fieldOf h) m)
-        → field ≡ at + 8 + startOf (fieldOf h) → 0 ≡ tokensAt (fieldOf h) s (at + 8) .length → Put s h at z k n 1 b 1 1 d
+        → field ≡ at + 8 + startOf (fieldOf h) → 0 ≡ sizesWord s (tokensAt (fieldOf h) s (at + 8)) → Put s h at z k n 1 b 1 1 d
     put-first e x field m p u i w f t = put-there s h at z k n b (size-one s h at z one size) e x field 0 m p u i w f t
 
 pub blank-first : (s : List ℕ) (at z k n : ℕ) (b : List ℕ) → z ≡ 6 → k ≡ 0 → (x : Said) {d : List ℕ} → x .kind ≡ 0 → x .word ≡ 0 → d ≡ sets b (4 * n) (oneWords s at x (at + 8) 0) → Put s BLANK at z k n 1 b 1 1 d
+unfolding trailingSize pick
 blank-first s at z k n b size e x i w p = put-first s BLANK at z k n b refl size e x (at + 8) _ p refl i w (omega arith) refl
 
-pub ruleset put-laws = (put-absent, put-later, put-first, refl′)
+-- a record that is no formula's has no token bytes and none after them
+pub no-sizes : (s : List ℕ) → 0 ≡ sizesWord s noTokens
+unfolding trailingSize pick
+no-sizes s = refl
+
+pub ruleset put-laws = (put-absent, put-later, put-first, no-sizes, refl′)
 
 module _ (s : List ℕ) (at z k n : ℕ) (b : List ℕ) where
   pub formula-short : z < 22 → Put s FORMULA at z k n 1 b 0 0 b
@@ -86,10 +94,15 @@ module _ (s : List ℕ) (at z k n : ℕ) (b : List ℕ) where
       pub formula-later : (k ≡ 0 → ⊥) → Put s FORMULA at z k n 1 b 1 1 b
       formula-later o = put-past s FORMULA at z k n b (length-one s at z length wide is w long) o
 
-      pub formula-first : k ≡ 0 → (x : Said) (m : ℕ) (r : FormulaResult) {d : List ℕ} → d ≡ sets b (4 * n) (oneWords s at x (at + 8 + 2) length) → m ≡ numAt s 8 (at + 8 + 2) → r ≡ resultOf m → x .kind ≡ resultKind r → x .word ≡ resultWord r → Put s FORMULA at z k n 1 b 1 1 d
-      unfolding lengthAt
-      formula-first e x m r p u v i j =
-          put-there s FORMULA at z k n b (length-one s at z length wide is w long) e x (at + 8 + 2) length m p u (i ∙ ap resultKind v) (j ∙ ap resultWord v) refl is
+      sizes-there : (sizes : ℕ) → sizes ≡ length + (z - (22 + length)) * 65536 → z ≡ u16At s (at + 2) → sizes ≡ sizesWord s (tokensAt (fieldOf FORMULA) s (at + 8))
+      unfolding lengthAt trailingSize
+      sizes-there sizes g h =
+          let p : at + 2 ≡ at + 8 + 18 - 24 = omega arith in
+          g ∙ (λ j. is j + pick-nlt (z - (22 + length)) 0 _ (at + 8 + 18) 26 (omega arith) (λ y. (h ∙ ap (u16At s) p) y - (22 + is y)) j * 65536)
+
+      pub formula-first : k ≡ 0 → (x : Said) (sizes m : ℕ) (r : FormulaResult) {d : List ℕ} → d ≡ sets b (4 * n) (oneWords s at x (at + 8 + 2) sizes) → sizes ≡ length + (z - (22 + length)) * 65536 → z ≡ u16At s (at + 2) → m ≡ numAt s 8 (at + 8 + 2) → r ≡ resultOf m → x .kind ≡ resultKind r → x .word ≡ resultWord r → Put s FORMULA at z k n 1 b 1 1 d
+      formula-first e x sizes m r p g f u v i j =
+          put-there s FORMULA at z k n b (length-one s at z length wide is w long) e x (at + 8 + 2) sizes m p u (i ∙ ap resultKind v) (j ∙ ap resultWord v) refl (sizes-there sizes g f)
 
 pub ruleset formula-laws = (formula-short, formula-cut, formula-later, formula-first)
 
@@ -105,7 +118,7 @@ module _ (s : List ℕ) (f : Field) (at k last : ℕ) (b₀ : List ℕ) (n : ℕ
   written-first l = record { same = refl; order = l; number = refl; size = refl }
 
   module _ (b : List ℕ) (part cells : ℕ) (inv : Written s f at k last b₀ n b part cells) where
-    pub written-next : {d : List ℕ} → part < last → d ≡ sets b (4 * cells) (wordsOf (cellOf s f at part)) → Written s f at k last b₀ n d (part + 1) (cells + 1)
+    pub written-next : {d : List ℕ} → part < last → d ≡ sets b (4 * cells) (wordsOf s (cellOf s f at part)) → Written s f at k last b₀ n d (part + 1) (cells + 1)
     unfolding partsIn
     written-next {d} l e = record {
       same =
@@ -113,7 +126,7 @@ module _ (s : List ℕ) (f : Field) (at k last : ℕ) (b₀ : List ℕ) (n : ℕ
           ∙ (let i : suc (last - (part + 1)) ≡ last - part = omega arith in ap (λ (j : ℕ). partsIn s f at part j cells b) i) ∙ inv .same;
       order = omega arith;
       number = let i = inv .number in omega arith;
-      size = ap length e ∙ length-sets b (4 * cells) (wordsOf (cellOf s f at part)) ∙ inv .size;
+      size = ap length e ∙ length-sets b (4 * cells) (wordsOf s (cellOf s f at part)) ∙ inv .size;
     }
 
     pub written-all : last ≤ part → b ≡ partsIn s f at k (last - k) n b₀

@@ -10,6 +10,7 @@ use lib.Dec.{ltb}
 use borrow.Author.Tests.{ltb-true, ltb-false}
 use Rattle.walk.specs.Items.{Item, gives, skips, ends}
 use Rattle.walk.proofs.Choice.{pick-eq, pick-ne, pick-any}
+use Rattle.le.specs.Bytes.{u16At}
 use Rattle.record.specs.declared.Header.{Header}
 use Rattle.record.specs.declared.Header.the-variants.{Record, Cut, End}
 use Rattle.record.specs.Record.{headerAt}
@@ -45,7 +46,7 @@ module _ (at e count k : ℕ) where
 parts-size : (s : List ℕ) (f : Field) (at k j n : ℕ) (b : List ℕ) → length (partsIn s f at k j n b) ≡ length b
 unfolding partsIn
 parts-size s f at k zero n b = refl
-parts-size s f at k (suc j) n b = parts-size s f at (k + 1) j (n + 1) (sets b (4 * n) (wordsOf (cellOf s f at k))) ∙ length-sets b (4 * n) (wordsOf (cellOf s f at k))
+parts-size s f at k (suc j) n b = parts-size s f at (k + 1) j (n + 1) (sets b (4 * n) (wordsOf s (cellOf s f at k))) ∙ length-sets b (4 * n) (wordsOf s (cellOf s f at k))
 
 module _ (s : List ℕ) (at t z e : ℕ) (head : headerAt s at ≡ Record t z e) (m : ℕ) where
   abbrev count : ℕ
@@ -54,26 +55,26 @@ module _ (s : List ℕ) (at t z e : ℕ) (head : headerAt s at ≡ Record t z e)
   abbrev field : Field
   field = fieldOf (shapeOf t)
 
-  part-filled : (k n : ℕ) (b : List ℕ) → k < count → n < m → filled (m - n) s (spotIn at e count k) n b ≡ filled (m - (n + 1)) s (spotIn at e count (k + 1)) (n + 1) (sets b (4 * n) (wordsOf (cellOf s field at k)))
+  part-filled : (k n : ℕ) (b : List ℕ) → k < count → n < m → filled (m - n) s (spotIn at e count k) n b ≡ filled (m - (n + 1)) s (spotIn at e count (k + 1)) (n + 1) (sets b (4 * n) (wordsOf s (cellOf s field at k)))
   unfolding filled spotIn
   part-filled k n b l h =
       ap (λ (v : Place). filled (m - n) s v n b) (sym (spot-before at e count k l))
       ∙ (let i : m - n ≡ suc (m - (n + 1)) = omega arith in ap (λ (j : ℕ). filled j s (record { at = at; part = k; level = 0 }) n b) i)
-      ∙ ap (onListed (λ c w. filled (m - (n + 1)) s w (n + 1) (sets b (4 * n) (wordsOf c))) (record { words = b; cells = n; ended = true; place = placeAt 0 0 })) (next-part s at t z e head k l)
+      ∙ ap (onListed (λ c w. filled (m - (n + 1)) s w (n + 1) (sets b (4 * n) (wordsOf s c))) (record { words = b; cells = n; ended = true; place = placeAt 0 0 })) (next-part s at t z e head k l)
 
   parts-filled : (j k n : ℕ) (b : List ℕ) → k + j ≤ count → n + j ≤ m → filled (m - n) s (spotIn at e count k) n b ≡ filled (m - (n + j)) s (spotIn at e count (k + j)) (n + j) (partsIn s field at k j n b)
   unfolding partsIn
   parts-filled zero k n b h i = (let x : n ≡ n + zero = omega arith in let y : k ≡ k + zero = omega arith in λ o. filled (m - x o) s (spotIn at e count (y o)) (x o) b)
   parts-filled (suc j) k n b h i =
       part-filled k n b (omega arith) (omega arith)
-      ∙ parts-filled j (k + 1) (n + 1) (sets b (4 * n) (wordsOf (cellOf s field at k))) (omega arith) (omega arith)
-      ∙ (let x : n + 1 + j ≡ n + suc j = omega arith in let y : k + 1 + j ≡ k + suc j = omega arith in λ o. filled (m - x o) s (spotIn at e count (y o)) (x o) (partsIn s field at (k + 1) j (n + 1) (sets b (4 * n) (wordsOf (cellOf s field at k)))))
+      ∙ parts-filled j (k + 1) (n + 1) (sets b (4 * n) (wordsOf s (cellOf s field at k))) (omega arith) (omega arith)
+      ∙ (let x : n + 1 + j ≡ n + suc j = omega arith in let y : k + 1 + j ≡ k + suc j = omega arith in λ o. filled (m - x o) s (spotIn at e count (y o)) (x o) (partsIn s field at (k + 1) j (n + 1) (sets b (4 * n) (wordsOf s (cellOf s field at k)))))
 
 -- ---- a step
 filled-same : (s : List ℕ) (v w : Place) → nextOf s v ≡ nextOf s w → (k j n : ℕ) (b : List ℕ) → k ≡ suc j → filled k s v n b ≡ filled k s w n b
 unfolding filled
 filled-same s v w h k j n b e =
-    rw e (ap (onListed (λ c u. filled j s u (n + 1) (sets b (4 * n) (wordsOf c))) (record { words = b; cells = n; ended = true; place = placeAt 0 0 })) h)
+    rw e (ap (onListed (λ c u. filled j s u (n + 1) (sets b (4 * n) (wordsOf s c))) (record { words = b; cells = n; ended = true; place = placeAt 0 0 })) h)
 
 module _ (s : List ℕ) (v : Place) (t z e : ℕ) (head : headerAt s (v .at) ≡ Record t z e) where
   item-is : (y : Item Place Cell) → y ≡ recordItem s v t z e → y ≡ cellItem s v
@@ -157,6 +158,16 @@ module _ (s : List ℕ) (v : Place) (t z e : ℕ) (head : headerAt s (v .at) ≡
               },
               rw q nearer,
             )
+
+-- ---- a record's size, as its header has it
+module _ (s : List ℕ) (at k z e : ℕ) (head : headerAt s at ≡ Record k z e) where
+  pub size-there : z ≡ u16At s (at + 2)
+  size-there = whole s at k z e head .size
+
+  pub size-small : z ≤ 8224
+  size-small = whole s at k z e head .small
+
+pub ruleset size-laws = (size-there, size-small)
 
 pub ruleset step-laws = (stepped-inside, stepped-none, stepped-put)
 

@@ -5,6 +5,7 @@ use mathlib.Core.List.{List, [], _∷_}
 use native.Mathlib.Omega.{arith}
 use lib.ListN.{length}
 use lib.Seq.{sets}
+use Rattle.walk.specs.Choice.{pick}
 use Rattle.walk.proofs.Choice.{pick-eq, pick-ne, pick-any, pick-by}
 use Rattle.le.specs.Bytes.{u16At, numAt}
 use Rattle.number.specs.Float64.{isNanBits}
@@ -17,7 +18,8 @@ use Rattle.value.specs.declared.CellValue.{CellValue}
 use Rattle.value.specs.declared.CellValue.the-variants.{Truth, Error}
 use Rattle.value.specs.Value.{widthOf, floatValue, rkValue, truthError, valueOf}
 use Rattle.cell.specs.Cells.{partOf, startOf, rowAt, firstAt, fieldAt, tokensAt, cellFrom, cellOf}
-use Rattle.batch.specs.Batch.{valueKind, valueWord, wordsOf}
+use Rattle.reading.specs.Reading.{trailingSize}
+use Rattle.batch.specs.Batch.{valueKind, valueWord, sizesWord, wordsOf}
 
 -- ---- what a value field says, in words
 module _ (word : ℕ) {r x : Rk} (i : r ≡ rkOf word) (j : r ≡ x) where
@@ -57,8 +59,8 @@ pub ruleset byte-laws = (truth-kind, truth-word, error-kind, error-word)
 
 -- ---- a cell's four words, from what was read of it
 module _ (s : List ℕ) (f : Field) (n : ℕ) (b : List ℕ) where
-  from-words : (row column q m format kind word field size head : ℕ) (d : List ℕ) → format ≡ u16At s q → m ≡ numAt s (widthOf f) (q + startOf f) → kind ≡ valueKind (valueOf f m) → word ≡ valueWord (valueOf f m) → field ≡ q + startOf f → size ≡ tokensAt f s q .length
-      → head ≡ row + column * 65536 + format * 4294967296 + kind * 281474976710656 → d ≡ sets b (4 * n) (head ∷ word ∷ field ∷ size ∷ []) → d ≡ sets b (4 * n) (wordsOf (cellFrom f s row column q))
+  from-words : (row column q m format kind word field size head : ℕ) (d : List ℕ) → format ≡ u16At s q → m ≡ numAt s (widthOf f) (q + startOf f) → kind ≡ valueKind (valueOf f m) → word ≡ valueWord (valueOf f m) → field ≡ q + startOf f → size ≡ sizesWord s (tokensAt f s q)
+      → head ≡ row + column * 65536 + format * 4294967296 + kind * 281474976710656 → d ≡ sets b (4 * n) (head ∷ word ∷ field ∷ size ∷ []) → d ≡ sets b (4 * n) (wordsOf s (cellFrom f s row column q))
   unfolding cellFrom fieldAt
   from-words row column q m format kind word field size head d o u i w p t h e =
       let k = i ∙ ap (λ (x : ℕ). valueKind (valueOf f x)) u in
@@ -66,17 +68,19 @@ module _ (s : List ℕ) (f : Field) (n : ℕ) (b : List ℕ) where
       e ∙ ap (sets b (4 * n)) (λ j. (h ∙ (λ y. row + column * 65536 + o y * 4294967296 + k y * 281474976710656)) j ∷ c j ∷ p j ∷ t j ∷ [])
 
   pub written : (at k row column q m format kind word field size head : ℕ) (d : List ℕ) → row ≡ u16At s (at + 4) → column ≡ u16At s (at + 6) + k → q ≡ at + 8 + k * partOf f → format ≡ u16At s q → m ≡ numAt s (widthOf f) (q + startOf f) → kind ≡ valueKind (valueOf f m) → word ≡ valueWord (valueOf f m)
-      → field ≡ q + startOf f → size ≡ tokensAt f s q .length → head ≡ row + column * 65536 + format * 4294967296 + kind * 281474976710656 → d ≡ sets b (4 * n) (head ∷ word ∷ field ∷ size ∷ []) → d ≡ sets b (4 * n) (wordsOf (cellOf s f at k))
+      → field ≡ q + startOf f → size ≡ sizesWord s (tokensAt f s q) → head ≡ row + column * 65536 + format * 4294967296 + kind * 281474976710656 → d ≡ sets b (4 * n) (head ∷ word ∷ field ∷ size ∷ []) → d ≡ sets b (4 * n) (wordsOf s (cellOf s f at k))
   unfolding cellOf rowAt firstAt
   written at k row column q m format kind word field size head d r c g o u i w p t h e =
-      from-words row column q m format kind word field size head d o u i w p t h e ∙ ap (sets b (4 * n)) (λ j. wordsOf (cellFrom f s (r j) (c j) (g j)))
+      from-words row column q m format kind word field size head d o u i w p t h e ∙ ap (sets b (4 * n)) (λ j. wordsOf s (cellFrom f s (r j) (c j) (g j)))
 
 module _ (s : List ℕ) (at k n : ℕ) (b : List ℕ) {row first w format head : ℕ} {d : List ℕ} (r : row ≡ u16At s (at + 4)) (c : first ≡ u16At s (at + 6)) (wide : w ≡ k) where
   pub rk-written : {kind word number : ℕ} → format ≡ u16At s (at + 8 + w * 6) → number ≡ numAt s 4 (at + 8 + w * 6 + 2) → kind ≡ valueKind (valueOf RkWord number) → word ≡ valueWord (valueOf RkWord number)
-      → head ≡ row + (first + k) * 65536 + format * 4294967296 + kind * 281474976710656 → d ≡ sets b (4 * n) (head ∷ word ∷ (at + 8 + w * 6 + 2) ∷ 0 ∷ []) → d ≡ sets b (4 * n) (wordsOf (cellOf s RkWord at k))
+      → head ≡ row + (first + k) * 65536 + format * 4294967296 + kind * 281474976710656 → d ≡ sets b (4 * n) (head ∷ word ∷ (at + 8 + w * 6 + 2) ∷ 0 ∷ []) → d ≡ sets b (4 * n) (wordsOf s (cellOf s RkWord at k))
+  unfolding trailingSize pick
   rk-written {kind} {word} {number} o u i x h e =
       written s RkWord n b at k row (first + k) (at + 8 + w * 6) number format kind word (at + 8 + w * 6 + 2) 0 head d r (ap (λ (y : ℕ). y + k) c) (ap (λ (y : ℕ). at + 8 + y * 6) wide) o u i x refl refl h e
 
-  pub blank-written : format ≡ u16At s (at + 8 + w * 2) → head ≡ row + (first + k) * 65536 + format * 4294967296 + 0 * 281474976710656 → d ≡ sets b (4 * n) (head ∷ 0 ∷ (at + 8 + w * 2) ∷ 0 ∷ []) → d ≡ sets b (4 * n) (wordsOf (cellOf s NoField at k))
+  pub blank-written : format ≡ u16At s (at + 8 + w * 2) → head ≡ row + (first + k) * 65536 + format * 4294967296 + 0 * 281474976710656 → d ≡ sets b (4 * n) (head ∷ 0 ∷ (at + 8 + w * 2) ∷ 0 ∷ []) → d ≡ sets b (4 * n) (wordsOf s (cellOf s NoField at k))
+  unfolding trailingSize pick
   blank-written o h e =
       written s NoField n b at k row (first + k) (at + 8 + w * 2) _ format 0 0 (at + 8 + w * 2) 0 head d r (ap (λ (y : ℕ). y + k) c) (ap (λ (y : ℕ). at + 8 + y * 2) wide) o refl refl refl (omega arith) refl h e

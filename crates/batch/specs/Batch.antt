@@ -10,8 +10,10 @@ use Rattle.value.specs.declared.FormulaResult.the-variants as result
 use Rattle.value.specs.declared.CellValue.{CellValue}
 use Rattle.value.specs.declared.CellValue.the-variants as value
 use Rattle.cell.specs.declared.Cell.{Cell}
+use Rattle.cell.specs.declared.Tokens.{Tokens}
 use Rattle.reading.specs.declared.Place.{Place}
 use Rattle.reading.specs.Cells.{placeAt}
+use Rattle.reading.specs.Reading.{trailingSize}
 use Rattle.listing.specs.declared.Listed.{Listed}
 use Rattle.listing.specs.declared.Listed.the-variants as listed
 use Rattle.listing.specs.Listing.{nextOf}
@@ -57,9 +59,13 @@ valueWord (value.Formula r) = resultWord r
 abbrev pub headWord : Cell → ℕ
 headWord c = c .row + c .column * 65536 + c .format * 4294967296 + valueKind (c .value) * 281474976710656
 
--- the value field's offset, and a formula's token bytes, which start 16 bytes after it
-abbrev pub wordsOf : Cell → List ℕ
-wordsOf c = headWord c ∷ valueWord (c .value) ∷ c .field ∷ c .tokens .length ∷ []
+-- how many token bytes a formula has in the lowest 16 bits, and then how many bytes come after them
+abbrev pub sizesWord : List ℕ → Tokens → ℕ
+sizesWord s t = t .length + trailingSize s t * 65536
+
+-- the value field's offset; a formula's token bytes start 16 bytes after it
+abbrev pub wordsOf : List ℕ → Cell → List ℕ
+wordsOf s c = headWord c ∷ valueWord (c .value) ∷ c .field ∷ sizesWord s (c .tokens) ∷ []
 
 -- how far a listing came: the words, the number of cells, whether it ended, and where it goes on if not
 pub record Batch : Type 0 where
@@ -76,7 +82,7 @@ onListed on end listed.End = end
 unfoldable pub filled : ℕ → List ℕ → Place → ℕ → List ℕ → Batch
 filled zero s v n b = record { words = b; cells = n; ended = false; place = v }
 filled (suc k) s v n b =
-    onListed (λ c w. filled k s w (n + 1) (sets b (4 * n) (wordsOf c))) (record { words = b; cells = n; ended = true; place = placeAt 0 0 }) (nextOf s v)
+    onListed (λ c w. filled k s w (n + 1) (sets b (4 * n) (wordsOf s c))) (record { words = b; cells = n; ended = true; place = placeAt 0 0 }) (nextOf s v)
 
 -- as many as there is room for
 abbrev pub filledFrom : List ℕ → Place → List ℕ → Batch

@@ -23,12 +23,12 @@ use Rattle.batch.specs.Batch.{wordsOf, filled}
 
 -- the words of the one cell of the record at `at`
 abbrev pub oneWords : List ℕ → ℕ → Said → ℕ → ℕ → List ℕ
-oneWords s at x field size = (u16At s (at + 4) + u16At s (at + 6) * 65536 + u16At s (at + 8) * 4294967296 + x .kind * 281474976710656) ∷ x .word ∷ field ∷ size ∷ []
+oneWords s at x field sizes = (u16At s (at + 4) + u16At s (at + 6) * 65536 + u16At s (at + 8) * 4294967296 + x .kind * 281474976710656) ∷ x .word ∷ field ∷ sizes ∷ []
 
 -- j cells of the record at `at` from the k-th on, put into b after the n that it has
 unfoldable pub partsIn : List ℕ → Field → ℕ → ℕ → ℕ → ℕ → List ℕ → List ℕ
 partsIn s f at k zero n b = b
-partsIn s f at k (suc j) n b = partsIn s f at (k + 1) j (n + 1) (sets b (4 * n) (wordsOf (cellOf s f at k)))
+partsIn s f at k (suc j) n b = partsIn s f at (k + 1) j (n + 1) (sets b (4 * n) (wordsOf s (cellOf s f at k)))
 
 -- the k-th part lies in the stream, its column is one, and there is room for its words
 abbrev pub PartRoom : List ℕ → Field → ℕ → ℕ → List ℕ → ℕ → Type 0

@@ -131,9 +131,9 @@ fn put_four(words: &mut [u64], at: usize, a: u64, b: u64, c: u64, d: u64)
 }
 
 // The one cell of the record at `at`, after the n cells that the words have.
-fn put_one(s: &[u8], at: usize, said: Said, field: usize, tokens: u16, words: &mut [u64], n: usize)
+fn put_one(s: &[u8], at: usize, said: Said, field: usize, sizes: u64, words: &mut [u64], n: usize)
     requires { ⌜ (at + 10 ≤ length (now s)) × (4 * n + 4 ≤ length (now words)) ⌝ }
-    ensures { λ _. ⌜ now (words .exit) ≡ sets (now (words .entry)) (4 * n) (oneWords (now (s .entry)) at said field tokens) ⌝ }
+    ensures { λ _. ⌜ now (words .exit) ≡ sets (now (words .entry)) (4 * n) (oneWords (now (s .entry)) at said field sizes) ⌝ }
 {
     let head = head_word(
         le::u16_at(s, at + 4),
@@ -141,14 +141,7 @@ fn put_one(s: &[u8], at: usize, said: Said, field: usize, tokens: u16, words: &m
         le::u16_at(s, at + 8),
         said.kind,
     );
-    put_four(
-        words,
-        4 * n,
-        head,
-        said.word,
-        field as u64,
-        le::u16_as_u64(tokens),
-    );
+    put_four(words, 4 * n, head, said.word, field as u64, sizes);
 }
 
 // ---- the records of one cell: how many cells there are, and up to which they have been written, from the k-th on
@@ -241,8 +234,17 @@ fn put_truth_error(s: &[u8], at: usize, size: usize, k: u16, words: &mut [u64], 
     Done { count: 1, last: 1 }
 }
 
+// How many token bytes a formula's record of `size` bytes has, and 16 bits up how many come after them.
+fn formula_sizes(size: usize, tokens: u16) -> u64
+    requires { ⌜ (22 + tokens ≤ size) × (size ≤ 8224) ⌝ }
+    ensures { λ w. ⌜ w ≡ tokens + (size - (22 + tokens)) * 65536 ⌝ }
+{
+    let trailing = size - (22 + le::u16_as_usize(tokens));
+    le::u16_as_u64(tokens) + trailing as u64 * 65536
+}
+
 fn put_formula(s: &[u8], at: usize, size: usize, k: u16, words: &mut [u64], n: usize) -> Done
-    requires { ⌜ (at + 4 + size ≤ length (now s)) × (4 * n + 4 ≤ length (now words)) ⌝ }
+    requires { ⌜ (at + 4 + size ≤ length (now s)) × (4 * n + 4 ≤ length (now words)) × (size ≡ u16At (now s) (at + 2)) × (size ≤ 8224) ⌝ }
     ensures { λ r. ⌜ Put (now (s .entry)) Shape.FORMULA at size k n 1 (now (words .entry)) (r .count) (r .last) (now (words .exit)) ⌝ }
 {
     if size < 22 {
@@ -257,7 +259,7 @@ fn put_formula(s: &[u8], at: usize, size: usize, k: u16, words: &mut [u64], n: u
         return Done { count: 1, last: 1 };
     }
     let said = result_said(value::result_value(le::u64_at(s, q + 2)));
-    put_one(s, at, said, q + 2, length, words, n);
+    put_one(s, at, said, q + 2, formula_sizes(size, length), words, n);
     Done { count: 1, last: 1 }
 }
 
@@ -266,7 +268,7 @@ fn put_formula(s: &[u8], at: usize, size: usize, k: u16, words: &mut [u64], n: u
 // The k-th cell, in this row, after the n cells that the words have; `first` is the record's first column.
 fn put_rk(s: &[u8], at: usize, row: u16, first: u16, k: u16, words: &mut [u64], n: usize)
     requires { ⌜ (row ≡ u16At (now s) (at + 4)) × (first ≡ u16At (now s) (at + 6)) × PartRoom (now s) Field.RkWord at k (now words) n ⌝ }
-    ensures { λ _. ⌜ now (words .exit) ≡ sets (now (words .entry)) (4 * n) (wordsOf (cellOf (now (s .entry)) Field.RkWord at k)) ⌝ }
+    ensures { λ _. ⌜ now (words .exit) ≡ sets (now (words .entry)) (4 * n) (wordsOf (now (s .entry)) (cellOf (now (s .entry)) Field.RkWord at k)) ⌝ }
 {
     let q = at + 8 + le::u16_as_usize(k) * 6;
     let said = rk_said(le::u32_at(s, q + 2));
@@ -276,7 +278,7 @@ fn put_rk(s: &[u8], at: usize, row: u16, first: u16, k: u16, words: &mut [u64], 
 
 fn put_blank(s: &[u8], at: usize, row: u16, first: u16, k: u16, words: &mut [u64], n: usize)
     requires { ⌜ (row ≡ u16At (now s) (at + 4)) × (first ≡ u16At (now s) (at + 6)) × PartRoom (now s) Field.NoField at k (now words) n ⌝ }
-    ensures { λ _. ⌜ now (words .exit) ≡ sets (now (words .entry)) (4 * n) (wordsOf (cellOf (now (s .entry)) Field.NoField at k)) ⌝ }
+    ensures { λ _. ⌜ now (words .exit) ≡ sets (now (words .entry)) (4 * n) (wordsOf (now (s .entry)) (cellOf (now (s .entry)) Field.NoField at k)) ⌝ }
 {
     let q = at + 8 + le::u16_as_usize(k) * 2;
     let head = head_word(row, first + k, le::u16_at(s, q), 0);
@@ -380,7 +382,7 @@ fn put_record(
     n: usize,
     room: usize,
 ) -> Done
-    requires { ⌜ (at + 4 + size ≤ length (now s)) × (0 < room) × (4 * (n + room) ≤ length (now words)) ⌝ }
+    requires { ⌜ (at + 4 + size ≤ length (now s)) × (0 < room) × (4 * (n + room) ≤ length (now words)) × (size ≡ u16At (now s) (at + 2)) × (size ≤ 8224) ⌝ }
     ensures { λ r. ⌜ Put (now (s .entry)) (shapeOf kind) at size k n room (now (words .entry)) (r .count) (r .last) (now (words .exit)) ⌝ }
 {
     match kind {

@@ -15,14 +15,14 @@ use Rattle.change.specs.declared.Plan.the-variants as plan
 use Rattle.change.specs.Change.{planOf}
 use Rattle.formula.specs.declared.Judgement.{Judgement}
 use Rattle.formula.specs.declared.Judgement.the-variants.{Accepted, Refused}
-use Rattle.formula.specs.Judge.{judgeOf}
+use Rattle.judge.specs.Judge.{judgeOf}
 use Rattle.strings.specs.Table.{stringsOf}
 
--- what an RK word means, how the number of these 64 bits is packed, how a formula's bytes are judged, which strings an SST and its CONTINUEs hold
+-- what an RK word means, how the number of these 64 bits is packed, how a formula's tokens and the bytes after them are judged, which strings an SST and its CONTINUEs hold
 pub data Question : Type 0 where
   rkWord : ℕ → Question
   packing : ℕ → Question
-  formula : List ℕ → Question
+  formula : List ℕ → List ℕ → Question
   strings : List ℕ → Question
 
 pub data Answer : Type 0 where
@@ -50,7 +50,7 @@ judged (Refused n o) = refused n o
 abbrev pub answerOf : Question → Answer
 answerOf (rkWord w) = meant (rkOf w)
 answerOf (packing b) = planned (planOf RkWord (Number (ofBits binary64 b)) 0)
-answerOf (formula b) = judged (judgeOf b)
+answerOf (formula b d) = judged (judgeOf b d)
 answerOf (strings b) = units (stringsOf b 0 (4 + u16At b 2))
 
 pub record Example : Type 0 where
@@ -79,11 +79,14 @@ examples =
     ∷ (packing 0x41C0000000000000 ⟶ word 0x41C00000)
     ∷ (packing 0x41C0000000800000 ⟶ refused 18 0)
     ∷ (packing 0x3FB999999999999A ⟶ refused 18 0)
-    ∷ (formula (0x44 ∷ 0x00 ∷ 0x00 ∷ 0x00 ∷ 0xC0 ∷ 0x1E ∷ 0x01 ∷ 0x00 ∷ 0x03 ∷ []) ⟶ accepted)
-    ∷ (formula (0x03 ∷ []) ⟶ refused 14 0)
-    ∷ (formula (0x1E ∷ 0x01 ∷ 0x00 ∷ 0x1E ∷ 0x01 ∷ 0x00 ∷ []) ⟶ refused 14 6)
-    ∷ (formula (0x29 ∷ 0x03 ∷ 0x00 ∷ 0x1E ∷ 0x01 ∷ 0x00 ∷ []) ⟶ accepted)
-    ∷ (formula (0x42 ∷ 0x00 ∷ 0xDD ∷ 0x00 ∷ []) ⟶ accepted)
+    ∷ (formula (0x44 ∷ 0x00 ∷ 0x00 ∷ 0x00 ∷ 0xC0 ∷ 0x1E ∷ 0x01 ∷ 0x00 ∷ 0x03 ∷ []) [] ⟶ accepted)
+    ∷ (formula (0x03 ∷ []) [] ⟶ refused 14 0)
+    ∷ (formula (0x1E ∷ 0x01 ∷ 0x00 ∷ 0x1E ∷ 0x01 ∷ 0x00 ∷ []) [] ⟶ refused 14 6)
+    ∷ (formula (0x29 ∷ 0x03 ∷ 0x00 ∷ 0x1E ∷ 0x01 ∷ 0x00 ∷ []) [] ⟶ accepted)
+    ∷ (formula (0x42 ∷ 0x00 ∷ 0xDD ∷ 0x00 ∷ []) [] ⟶ accepted)
+    ∷ (formula (0x60 ∷ 0x00 ∷ 0x00 ∷ 0x00 ∷ 0x00 ∷ 0x00 ∷ 0x00 ∷ 0x00 ∷ []) (0x00 ∷ 0x00 ∷ 0x00 ∷ 0x02 ∷ 0x01 ∷ 0x00 ∷ 0x00 ∷ 0x41 ∷ []) ⟶ accepted)
+    ∷ (formula (0x60 ∷ 0x00 ∷ 0x00 ∷ 0x00 ∷ 0x00 ∷ 0x00 ∷ 0x00 ∷ 0x00 ∷ []) (0x01 ∷ 0x00 ∷ 0x00 ∷ 0x02 ∷ 0x01 ∷ 0x00 ∷ 0x00 ∷ 0x41 ∷ []) ⟶ refused 13 8)
+    ∷ (formula (0x1E ∷ 0x01 ∷ 0x00 ∷ []) (0x00 ∷ []) ⟶ refused 13 3)
     ∷ (strings (sst ++ continuation) ⟶ units ((0x0041 ∷ 0x03A9 ∷ []) ∷ []))
     ∷ []
 

@@ -20,7 +20,7 @@ use Rattle.formula.specs.declared.Token.the-variants.{Plain, Memory, Inv
 use Rattle.formula.specs.Tokens.{tokenOf}
 use Rattle.formula.specs.Judge.{atEnd, ifAccepted, onToken, formulaOf}
 use Rattle.formula.specs.Parts.{plainStep, memoryStep, onStep, Right, RightStep, StepWithin}
-use Rattle.formula.proofs.Within.{TokenWithin, token-within}
+use Rattle.formula.proofs.Within.{plain-facts, memory-facts, inner-shorter, inner-laws}
 
 -- ---- the token that t starts with
 abbrev inner : List ℕ → ℕ → ℕ → ℕ → ℕ → ℕ → Judgement
@@ -50,28 +50,19 @@ module _ (t : List ℕ) (offset stack depth : ℕ) (some : 0 < length t) where
       go true = refl
       go false = refl
 
-  memory-facts : (x : Token) (size head : ℕ) → x ≡ tokenOf t offset depth → x ≡ Memory size head → (1 ≤ head) × (head < size) × (size ≤ length t) × (depth < 8)
-  unfolding TokenWithin
-  memory-facts x size head e f = rw (sym e ∙ f) at (token-within t depth offset some)
-
   pub on-memory : (x : Token) (s : Step) (j : Judgement) (size head : ℕ) → x ≡ tokenOf t offset depth → x ≡ Memory size head → Right (take (size - head) (drop head t)) (offset + head) 0 (depth + 1) j → s ≡ memoryStep size stack j → RightStep t offset stack depth s
   unfolding Right RightStep
   on-memory x s j size head e f r g k l =
-      let facts = memory-facts x size head e f in
-      let enough : length (take (size - head) (drop head t)) ≤ k = simp (length-take, length-drop) (omega arith) in
+      let enough = inner-shorter t offset depth some x e size head f k l in
       rw g (go j ∙ rw (r k enough) (known x (Memory size head) e f k))
     where
       go : (i : Judgement) → onStep (rest t offset depth k) (memoryStep size stack i) ≡ ifAccepted i (rest t offset depth k size (stack + 1))
       go judgement.Accepted = refl
       go (judgement.Refused number o) = refl
 
-  plain-facts : (x : Token) (size takes gives : ℕ) → x ≡ tokenOf t offset depth → x ≡ Plain size takes gives → (1 ≤ size) × (size ≤ length t) × (gives ≤ 1)
-  unfolding TokenWithin
-  plain-facts x size takes gives e f = rw (sym e ∙ f) at (token-within t depth offset some)
-
   pub plain-within : (x : Token) (s : Step) (size takes gives : ℕ) → x ≡ tokenOf t offset depth → x ≡ Plain size takes gives → s ≡ plainStep offset stack size takes gives → StepWithin (length t) stack s
   unfolding pick StepWithin
-  plain-within x s size takes gives e f g = rw g (go (ltb stack takes) (plain-facts x size takes gives e f))
+  plain-within x s size takes gives e f g = rw g (go (ltb stack takes) (plain-facts t offset depth some x e size takes gives f))
     where
       go : (b : Bool) → (1 ≤ size) × (size ≤ length t) × (gives ≤ 1) → StepWithin (length t) stack (pick b (Refused 14 offset) (Next size (stack - takes + gives)))
       go true p = tt
@@ -79,7 +70,7 @@ module _ (t : List ℕ) (offset stack depth : ℕ) (some : 0 < length t) where
 
   pub memory-within : (x : Token) (s : Step) (j : Judgement) (size head : ℕ) → x ≡ tokenOf t offset depth → x ≡ Memory size head → s ≡ memoryStep size stack j → StepWithin (length t) stack s
   unfolding StepWithin
-  memory-within x s j size head e f g = rw g (go j (memory-facts x size head e f))
+  memory-within x s j size head e f g = rw g (go j (memory-facts t offset depth some x e size head f))
     where
       go : (i : Judgement) → (1 ≤ head) × (head < size) × (size ≤ length t) × (depth < 8) → StepWithin (length t) stack (memoryStep size stack i)
       go judgement.Accepted p = omega arith
@@ -90,29 +81,9 @@ module _ (t : List ℕ) (offset stack depth : ℕ) (some : 0 < length t) where
   invalid-within number o = tt
 
   pub gives-fit : (x : Token) (size takes gives : ℕ) → x ≡ tokenOf t offset depth → x ≡ Plain size takes gives → gives < 2 ^ 32
-  gives-fit x size takes gives e f = omega (arith, plain-facts x size takes gives e f)
+  gives-fit x size takes gives e f = omega (arith, plain-facts t offset depth some x e size takes gives f)
 
-  -- what the call on a memory token's inner bytes asks
-  module _ (x : Token) (size head : ℕ) (e : x ≡ tokenOf t offset depth) (f : x ≡ Memory size head) where
-    pub head-within : head ≤ size
-    head-within = omega (arith, memory-facts x size head e f)
-
-    pub size-within : size ≤ length t
-    size-within = omega (arith, memory-facts x size head e f)
-
-    pub offset-fits : offset + length t < 2 ^ 32 → Fits w64 (offset + head)
-    offset-fits h = omega (arith, memory-facts x size head e f)
-
-    pub depth-fits : Fits w8 (depth + 1)
-    depth-fits = omega (arith, memory-facts x size head e f)
-
-    pub inner-falls : (m : ℕ) → 2 * length t ≡ m → 2 * length (take (size - head) (drop head t)) + 1 < m
-    inner-falls m h = simp (length-take, length-drop) (omega (arith, memory-facts x size head e f))
-
-    pub inner-fits : offset + length t < 2 ^ 32 → offset + head + length (take (size - head) (drop head t)) < 2 ^ 32
-    inner-fits h = simp (length-take, length-drop) (omega (arith, memory-facts x size head e f))
-
-pub ruleset on-token = (on-invalid, on-plain, on-memory, invalid-within, plain-within, memory-within, gives-fit, head-within, size-within, offset-fits, depth-fits, inner-falls, inner-fits)
+pub ruleset on-token = (on-invalid, on-plain, on-memory, invalid-within, plain-within, memory-within, gives-fit, inner-laws)
 
 -- ---- the formula b, of which `at` bytes are passed
 -- an answer that is right from there on is right for the whole of b

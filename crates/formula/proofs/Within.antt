@@ -1,12 +1,14 @@
 -- Every token lies within what is left of its formula. Assumes nothing.
-use Prim.Native.Nat.{ℕ, _+_, _-_, _*_, _%_, _≤_, _<_}
-use mathlib.Core.Path.{_≡_, refl}
+use Prim.Native.Nat.{ℕ, suc, _+_, _-_, _*_, _%_, _^_, _≤_, _<_}
+use mathlib.Core.Path.{_≡_, refl, sym, _∙_}
 use mathlib.Core.Bool.{Bool, true, false}
 use mathlib.Core.List.{List}
 use native.Mathlib.Omega.{arith}
 use borrow.Author.Tests.{ltb-false, leb-false, eqb-true, eqb-false}
+use mir.Syntax.{w8, w64}
+use mir.Val.{Fits}
 use lib.Dec.{ltb, leb, eqb, lit≤}
-use lib.ListN.{length}
+use lib.ListN.{length, take, drop, length-take, length-drop}
 use Rattle.walk.specs.Choice.{pick}
 use Rattle.le.specs.Bytes.{byteAt, u16At}
 use Rattle.functions.specs.declared.Counts.{Counts}
@@ -128,3 +130,38 @@ module _ (t : List ℕ) (depth : ℕ) where
   pub token-within : (offset : ℕ) → 0 < length t → TokenWithin (length t) depth (tokenOf t offset depth)
   unfolding tokenOf
   token-within offset h = either _ _ _ _ _ (base-in _ offset h) (either _ _ _ _ _ (classified-in _) (invalid _ _ 13))
+
+-- ---- the token that t starts with, x
+module _ (t : List ℕ) (offset depth : ℕ) (some : 0 < length t) (x : Token) (e : x ≡ tokenOf t offset depth) where
+  pub plain-facts : (size takes gives : ℕ) → x ≡ Plain size takes gives → (1 ≤ size) × (size ≤ length t) × (gives ≤ 1)
+  unfolding TokenWithin
+  plain-facts size takes gives f = rw (sym e ∙ f) at (token-within t depth offset some)
+
+  pub memory-facts : (size head : ℕ) → x ≡ Memory size head → (1 ≤ head) × (head < size) × (size ≤ length t) × (depth < 8)
+  unfolding TokenWithin
+  memory-facts size head f = rw (sym e ∙ f) at (token-within t depth offset some)
+
+  -- what a call on a memory token's inner bytes asks
+  module _ (size head : ℕ) (f : x ≡ Memory size head) where
+    pub head-within : head ≤ size
+    head-within = omega (arith, memory-facts size head f)
+
+    pub size-within : size ≤ length t
+    size-within = omega (arith, memory-facts size head f)
+
+    pub offset-fits : offset + length t < 2 ^ 32 → Fits w64 (offset + head)
+    offset-fits h = omega (arith, memory-facts size head f)
+
+    pub depth-fits : Fits w8 (depth + 1)
+    depth-fits = omega (arith, memory-facts size head f)
+
+    pub inner-falls : (m : ℕ) → 2 * length t ≡ m → 2 * length (take (size - head) (drop head t)) + 1 < m
+    inner-falls m h = simp (length-take, length-drop) (omega (arith, memory-facts size head f))
+
+    pub inner-fits : offset + length t < 2 ^ 32 → offset + head + length (take (size - head) (drop head t)) < 2 ^ 32
+    inner-fits h = simp (length-take, length-drop) (omega (arith, memory-facts size head f))
+
+    pub inner-shorter : (k : ℕ) → length t ≤ suc k → length (take (size - head) (drop head t)) ≤ k
+    inner-shorter k l = simp (length-take, length-drop) (omega (arith, memory-facts size head f))
+
+pub ruleset inner-laws = (head-within, size-within, offset-fits, depth-fits, inner-falls, inner-fits)

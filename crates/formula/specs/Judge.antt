@@ -39,6 +39,6 @@ formulaOf (suc k) (b ∷ t) offset stack depth =
     stack
     (tokenOf (b ∷ t) offset depth)
 
--- length 1 to 1,800, else 13 at 0
-unfoldable pub judgeOf : List ℕ → Judgement
-judgeOf b = pick (eqb (length b) 0) (Refused 13 0) (pick (ltb 1800 (length b)) (Refused 13 0) (formulaOf (length b) b 0 0 0))
+-- the tokens of a formula: length 1 to 1,800, else 13 at 0
+unfoldable pub tokensJudged : List ℕ → Judgement
+tokensJudged b = pick (eqb (length b) 0) (Refused 13 0) (pick (ltb 1800 (length b)) (Refused 13 0) (formulaOf (length b) b 0 0 0))

@@ -137,7 +137,9 @@ classifiedOf id depth t =
     (pick (eqb id 0x29) (memoryOf 3 depth t)
     (pick (eqb id 0x27) (memoryOf 7 depth t)
     (pick (eqb id 0x28) (memoryOf 7 depth t)
-    (Invalid 13)))))))))))))))))
+    (pick (eqb id 0x20) (operandOf 8 t)
+    (pick (eqb id 0x26) (memoryOf 7 depth t)
+    (Invalid 13)))))))))))))))))))
 
 -- ---- every token, at `offset` of the outermost bytes and inside `depth` memory tokens
 -- from 0x20 to 0x7F bits 5 and 6 are the operand class, which says nothing here, and bits 0 to 4 the token

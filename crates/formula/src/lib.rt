@@ -3,7 +3,7 @@ ghost use mathlib.Core.Path.{_≡_};
 ghost use Prim.Native.Nat.{_+_, _^_, _≤_, _<_};
 ghost use lib.ListN.{length};
 ghost use Rattle.formula.specs.Tokens.{operandOf, textOf, choiceOf, attributeOf, errorOf, truthOf, wholeOf, baseOf, columnClear, referenceOf, areaOf, fixedOf, calledOf, variableOf, innerOf, memoryOf, classifiedOf, tokenOf};
-ghost use Rattle.formula.specs.Judge.{atEnd, judgeOf};
+ghost use Rattle.formula.specs.Judge.{atEnd, tokensJudged};
 ghost use Rattle.formula.specs.Parts.{plainStep, memoryStep, Right, RightStep, StepWithin};
 use functions::Counts;
 
@@ -14,7 +14,7 @@ pub enum Judgement {
 }
 
 // A token, before the stack is looked at.
-enum Token {
+pub enum Token {
     // its bytes, the operands that it takes off the stack, and those that it gives
     Plain(usize, usize, usize),
     // a memory token, which gives one operand: its bytes, and how many of them come before its inner formula
@@ -285,12 +285,14 @@ fn classified_token(id: u8, depth: u8, t: &[u8]) -> Token
         0x29 => memory(3, depth, t),
         0x27 => memory(7, depth, t),
         0x28 => memory(7, depth, t),
+        0x20 => operand(8, t),
+        0x26 => memory(7, depth, t),
         _ => Token::Invalid(13),
     }
 }
 
 // The token that t starts with, at `offset` of the outermost bytes and inside `depth` memory tokens. Bits 5 and 6 of its byte are the operand class.
-fn first_token(t: &[u8], offset: usize, depth: u8) -> Token
+pub fn first_token(t: &[u8], offset: usize, depth: u8) -> Token
     requires { ⌜ 0 < length (now t) ⌝ }
     ensures { λ r. ⌜ r ≡ tokenOf (now (t .entry)) offset depth ⌝ }
 {
@@ -384,9 +386,9 @@ fn judge_formula(b: &[u8], base: usize, depth: u8) -> Judgement
     at_end(stack, base + at)
 }
 
-// The answer for any bytes; a formula has 1 to 1,800.
-pub fn judge(b: &[u8]) -> Judgement
-    ensures { λ r. ⌜ r ≡ judgeOf (now (b .entry)) ⌝ }
+// The answer on the tokens alone, for any bytes; a formula has 1 to 1,800.
+pub fn judge_tokens(b: &[u8]) -> Judgement
+    ensures { λ r. ⌜ r ≡ tokensJudged (now (b .entry)) ⌝ }
 {
     if b.len() == 0 {
         return Judgement::Refused {

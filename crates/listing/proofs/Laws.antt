@@ -1,9 +1,10 @@
 -- The laws of the listing, with what a call gave as the proofs have it. Assumes nothing.
 use Prim.Native.Nat.{ℕ, zero, suc, _+_, _-_, _^_, _≤_, _<_}
-use mathlib.Core.Path.{_≡_, refl, sym, ap, _∙_, subst}
+use mathlib.Core.Path.{_≡_, refl, sym, ap, ap₂, _∙_, subst}
 use mathlib.Core.List.{List, [], _∷_}
 use native.Mathlib.Omega.{arith}
-use lib.ListN.{length, take, drop}
+use lib.ListN.{length, take, drop, length-drop}
+use lib.Seq.{take-all, take-nil}
 use lib.Dec.{eqb}
 use Rattle.walk.specs.Choice.{pick}
 use Rattle.walk.proofs.Choice.{pick-eq, pick-ne, pick-lt, pick-nlt, pick-le, pick-nle, refl′}
@@ -11,6 +12,7 @@ use Rattle.walk.specs.Walk.{Next, more, stop}
 use Rattle.walk.proofs.Walk.{run-more, run-stop, run-keeps}
 use Rattle.walk.specs.Items.{Item, gives, skips, ends, onto, nth}
 use Rattle.walk.proofs.Items.{Nearer, nth-none, nth-here, nth-next}
+use Rattle.le.specs.Bytes.{u16At}
 use Rattle.record.specs.declared.Header.{Header}
 use Rattle.record.specs.declared.Header.the-variants.{Record, End}
 use Rattle.record.specs.Record.{headerAt}
@@ -32,7 +34,7 @@ use Rattle.reading.specs.declared.Place.{Place}
 use Rattle.reading.specs.declared.Outside.{Outside}
 use Rattle.reading.specs.Parts.{outsideItem}
 use Rattle.reading.specs.Cells.{placeAt, nextPart, otherItem, onFound, recordItem, onHeader, cellItem, remaining, listedFrom}
-use Rattle.reading.specs.Reading.{onName, nameAt, widthAt, typeAt, startBy, startOf, listedOf, rowsOf}
+use Rattle.reading.specs.Reading.{onName, nameAt, widthAt, typeAt, startBy, startOf, listedOf, rowsOf, trailingSize, trailingBytes}
 use Rattle.reading.proofs.Laws.{count-small, found-there, cell-here, item-near, listed-step}
 use Rattle.listing.specs.declared.Description.{Description}
 use Rattle.listing.specs.declared.Description.the-variants as description
@@ -343,5 +345,47 @@ module _ (s : List ℕ) (c : Cell) (size : ℕ) (is : size ≡ c .tokens .length
   pub tokens-part : c .tokens .start ≤ length s → size ≤ length s - c .tokens .start → take (c .tokens .start + size - c .tokens .start) (drop (c .tokens .start) s) ≡ tokensIn s c
   unfolding tokensIn tokensOf
   tokens-part h i = pick-le _ _ _ (c .tokens .start + c .tokens .length) (length s) (omega arith) (ap (λ (n : ℕ). take n (drop (c .tokens .start) s)) (let e : c .tokens .start + size - c .tokens .start ≡ c .tokens .length = omega arith in e))
+
+-- ---- and the bytes after them
+none-there : (n : ℕ) (l : List ℕ) → length l ≤ 0 → take n l ≡ []
+none-there n [] h = take-nil n
+none-there n (x ∷ l) h = absurd (omega arith)
+
+module _ (s : List ℕ) (c : Cell) (l : ℕ) (is : l ≡ c .tokens .length) where
+  pub trailing-none : c .tokens .start < 26 → [] ≡ trailingBytes s c
+  unfolding trailingBytes trailingSize
+  trailing-none h = ap (λ (n : ℕ). take n (drop (c .tokens .start + c .tokens .length) s)) (pick-lt 0 _ _ (c .tokens .start) 26 h refl)
+
+  dropped : length s ≤ c .tokens .start + l → [] ≡ trailingBytes s c
+  unfolding trailingBytes
+  dropped i = sym (none-there (trailingSize s (c .tokens)) (drop (c .tokens .start + c .tokens .length) s) (omega (arith, length-drop (c .tokens .start + c .tokens .length) s)))
+
+  pub trailing-past : length s < c .tokens .start → [] ≡ trailingBytes s c
+  trailing-past i = dropped (omega arith)
+
+  pub trailing-cut : c .tokens .start ≤ length s → length s - c .tokens .start < l → [] ≡ trailingBytes s c
+  trailing-cut i j = dropped (omega arith)
+
+  module _ (w z : ℕ) (word : w ≡ u16At s (c .tokens .start - 24)) (wide : z ≡ w) (some : 26 ≤ c .tokens .start) where
+    size-is : z - (22 + l) ≡ trailingSize s (c .tokens)
+    unfolding trailingSize
+    size-is = pick-nlt _ _ _ (c .tokens .start) 26 some (ap₂ (λ (a b : ℕ). a - (22 + b)) (wide ∙ word) is)
+
+    whole-part : (n : ℕ) → n ≡ z - (22 + l) → take n (drop (c .tokens .start + l) s) ≡ trailingBytes s c
+    unfolding trailingBytes
+    whole-part n e = ap₂ (λ (a b : ℕ). take a (drop (c .tokens .start + b) s)) (e ∙ size-is) is
+
+    pub trailing-small : z < 22 + l → [] ≡ trailingBytes s c
+    trailing-small h = whole-part 0 (omega arith)
+
+    pub trailing-part : (x : List ℕ) → x ≡ take (z - (22 + l)) (drop (c .tokens .start + l) s) → x ≡ trailingBytes s c
+    trailing-part x e = e ∙ whole-part (z - (22 + l)) refl
+
+-- so many bytes from a place on, or those that are there
+pub bytes-rest : (s : List ℕ) (from count : ℕ) → from ≤ length s → length s - from < count → take (length s - from) (drop from s) ≡ take count (drop from s)
+bytes-rest s from count h i = take-all (length s - from) (drop from s) (omega (arith, length-drop from s)) ∙ sym (take-all count (drop from s) (omega (arith, length-drop from s)))
+
+pub bytes-part : (s : List ℕ) (from count : ℕ) → take (from + count - from) (drop from s) ≡ take count (drop from s)
+bytes-part s from count = let e : from + count - from ≡ count = omega arith in rw e refl
 
 pub ruleset token-laws = (tokens-past, tokens-cut, tokens-part)

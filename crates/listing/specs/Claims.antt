@@ -6,14 +6,14 @@ use Rattle.walk.specs.Items.{nth, Lists}
 use Rattle.cell.specs.declared.Cell.{Cell}
 use Rattle.reading.specs.declared.Place.{Place}
 use Rattle.reading.specs.Cells.{listedFrom}
-use Rattle.reading.specs.Reading.{CellReading, SheetReading, readingOf, nameAt, rowsOf}
+use Rattle.reading.specs.Reading.{CellReading, SheetReading, readingOf, nameAt, rowsOf, trailingBytes}
 use Rattle.listing.specs.declared.NextSheet.the-variants as nextSheet
 use Rattle.listing.specs.declared.Start.the-variants as start
 use Rattle.listing.specs.declared.Listed.the-variants as listed
 use Rattle.listing.specs.Listing.{firstSheet, nextSheetOf, cellsOf, nextOf, tokensIn}
 
 -- ---- the cells of a sheet
--- from v, `next_cell` gives the cell x and the place w; `tokens` gives its tokens
+-- from v, `next_cell` gives the cell x and the place w; `tokens` gives its tokens and `trailing_bytes` the bytes after them
 pub record CellGiven (s : List ℕ) (v : Place) (x : CellReading) (w : Place) : Type 0 where
   pub cell : Cell
   pub next : nextOf s v ≡ listed.Cell cell w
@@ -21,6 +21,7 @@ pub record CellGiven (s : List ℕ) (v : Place) (x : CellReading) (w : Place) : 
   pub column : cell .column ≡ x .column
   pub value : cell .value ≡ x .value
   pub tokens : tokensIn s cell ≡ x .tokens
+  pub trailing : trailingBytes s cell ≡ x .trailing
 
 -- from v on, these cells, in order, and then the end
 abbrev pub CellsGiven : List ℕ → Place → List CellReading → Type 0

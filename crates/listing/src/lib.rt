@@ -1,12 +1,12 @@
 // The sheets of a stream, and the cells of a sheet one after the other. The check is made once, when a listing starts.
 ghost use mathlib.Core.Path.{_≡_};
 ghost use Prim.Native.Nat.{_+_, _≤_, max};
-ghost use lib.ListN.{length};
+ghost use lib.ListN.{length, take, drop};
 ghost use Rattle.walk.specs.Items.{nth};
 ghost use Rattle.record.specs.Record.{headerAt};
 ghost use Rattle.globals.specs.Sheets.{sheetsOf};
 ghost use Rattle.reading.specs.Cells.{placeAt, otherItem, recordItem, cellItem, listedFrom};
-ghost use Rattle.reading.specs.Reading.{nameAt, widthAt, typeAt, startBy, rowsOf};
+ghost use Rattle.reading.specs.Reading.{nameAt, widthAt, typeAt, startBy, rowsOf, trailingBytes};
 ghost use Rattle.listing.specs.Listing.{sheetOf, nameOf, firstSheet, nextSheetOf, cellsOf, nextOf, tokensIn};
 ghost use Rattle.listing.specs.Parts.{itemOf, foundSheet, SoughtWithin, overOther, RowsBy};
 use cell::Cell;
@@ -432,4 +432,40 @@ pub fn tokens(s: &[u8], cell: Cell) -> &[u8]
     }
     let end = start + size;
     &s[start..end]
+}
+
+// ---- the bytes of a formula's record after its tokens
+
+// So many bytes from a place on, or those that are there.
+fn bytes_from(s: &[u8], from: usize, count: usize) -> &[u8]
+    requires { ⌜ from ≤ length (now s) ⌝ }
+    ensures { λ r. ⌜ now r ≡ take count (drop from (now (s .entry))) ⌝ }
+{
+    if s.len() - from < count {
+        return &s[from..];
+    }
+    let end = from + count;
+    &s[from..end]
+}
+
+pub fn trailing_bytes(s: &[u8], cell: Cell) -> &[u8]
+    ensures { λ r. ⌜ now r ≡ trailingBytes (now (s .entry)) cell ⌝ }
+{
+    let part = cell.tokens;
+    let start = part.start;
+    let tokens = le::u16_as_usize(part.length);
+    if start < 26 {
+        return &s[0..0];
+    }
+    if s.len() < start {
+        return &s[0..0];
+    }
+    if s.len() - start < tokens {
+        return &s[0..0];
+    }
+    let size = le::u16_as_usize(le::u16_at(s, start - 24));
+    if size < 22 + tokens {
+        return &s[0..0];
+    }
+    bytes_from(s, start + tokens, size - (22 + tokens))
 }

@@ -1,4 +1,4 @@
--- The reading of a stream: in order, each sheet's name, width, type, row count and listed cells (row, column, value, a formula's tokens), and each
+-- The reading of a stream: in order, each sheet's name, width, type, row count and listed cells (row, column, value, a formula's tokens and the bytes after them), and each
 -- shared string's units.
 use Prim.Native.Nat.{ℕ, _+_, _-_, max}
 use mathlib.Core.List.{List, [], _∷_, map}
@@ -13,6 +13,7 @@ use Rattle.segments.specs.Segments.{widthOf}
 use Rattle.strings.specs.Table.{stringsOf}
 use Rattle.value.specs.declared.CellValue.{CellValue}
 use Rattle.cell.specs.declared.Cell.{Cell}
+use Rattle.cell.specs.declared.Tokens.{Tokens}
 use Rattle.cell.specs.Cells.{tokensOf}
 use Rattle.sheetlist.specs.Agreement.{Sheet}
 use Rattle.globals.specs.declared.Globals.{Globals}
@@ -64,11 +65,19 @@ onGlobals s (globals.At g) = stringsAt s (g .table)
 onGlobals s (globals.Refused n o) = []
 
 -- ---- the whole
+-- the bytes of a formula's record after its tokens, to its end. The tokens start 26 bytes after its header, whose size stands 2 bytes on
+unfoldable pub trailingSize : List ℕ → Tokens → ℕ
+trailingSize s t = pick (ltb (t .start) 26) 0 (u16At s (t .start - 24) - (22 + t .length))
+
+unfoldable pub trailingBytes : List ℕ → Cell → List ℕ
+trailingBytes s c = take (trailingSize s (c .tokens)) (drop (c .tokens .start + c .tokens .length) s)
+
 pub record CellReading : Type 0 where
   pub row : ℕ
   pub column : ℕ
   pub value : CellValue
   pub tokens : List ℕ
+  pub trailing : List ℕ
 
 pub record SheetReading : Type 0 where
   pub name : List ℕ
@@ -82,7 +91,7 @@ pub record Reading : Type 0 where
   pub strings : List (List ℕ)
 
 abbrev pub cellReading : List ℕ → Cell → CellReading
-cellReading s c = record { row = c .row; column = c .column; value = c .value; tokens = tokensOf s c }
+cellReading s c = record { row = c .row; column = c .column; value = c .value; tokens = tokensOf s c; trailing = trailingBytes s c }
 
 abbrev pub sheetReading : List ℕ → Sheet → SheetReading
 sheetReading s x = record {

@@ -17,7 +17,7 @@ use Rattle.sheetlist.specs.Agreement.{Sheet}
 use Rattle.globals.specs.declared.Globals.{Globals}
 use Rattle.reading.specs.declared.Place.{Place}
 use Rattle.reading.specs.Cells.{placeAt, cellItem, remaining, listedFrom}
-use Rattle.reading.specs.Reading.{startBy, listedOf, rowsOf, CellReading, cellReading}
+use Rattle.reading.specs.Reading.{startBy, listedOf, rowsOf, trailingBytes, CellReading, cellReading}
 use Rattle.chain.specs.Chain.{Reach, Beside, Every}
 use Rattle.chain.specs.Tops.{SheetStands}
 use Rattle.chain.proofs.Chain.{over, beside-cases, beside-reach}
@@ -29,7 +29,7 @@ use Rattle.reread.proofs.Records.{Stands, kept-item}
 use Rattle.upheld.proofs.Granted.{listed-here, listed-field}
 use Rattle.reread.proofs.Found.{sheet-start, listed-none}
 use Rattle.reread.proofs.Lists.{map-every, map-map, collect-map}
-use Rattle.reread.proofs.Items.{written-here, written-other, field-apart, item-written, tokens-written}
+use Rattle.reread.proofs.Items.{written-here, written-other, field-apart, item-written, tokens-written, trailing-written}
 
 -- ---- the row count
 rows-written : (p : ℕ) (v : CellValue) (l : List Cell) → rowsOf (map (written p v) l) ≡ rowsOf l
@@ -85,6 +85,9 @@ module _ {s s′ : List ℕ} {a t z e k : ℕ} {v : CellValue} (c : Corrected s 
     tokens-of : tokensOf s′ d ≡ tokensOf s d
     tokens-of = tokens-written c (i .at) (i .type) (i .size) (i .end) (i .part) d (i .header) (listed-here i .below) (listed-here i .cell) near-cell
 
+    trailing-of : trailingBytes s′ d ≡ trailingBytes s d
+    trailing-of = trailing-written c (i .at) (i .type) (i .size) (i .end) (i .part) d (i .header) (listed-here i .below) (listed-here i .cell) near-cell
+
     -- the one whose value field was written
     same-part : i .type ≡ t → i .at ≡ a → (b : Bool) → eqb (i .part) k ≡ b → fieldFrom (i .type) (i .at) (i .part) ≡ p₀ → i .part ≡ k
     same-part u l true n q = eqb-true (i .part) k n
@@ -105,9 +108,9 @@ module _ {s s′ : List ℕ} {a t z e k : ℕ} {v : CellValue} (c : Corrected s 
 
     -- any other reads the same
     pub other-read : (d .field ≡ p₀ → ⊥) → cellReading s′ (write d) ≡ cellReading s d
-    other-read n = ap (cellReading s′) (written-other p₀ v d n) ∙ (λ y. record { row = d .row; column = d .column; value = d .value; tokens = tokens-of y })
+    other-read n = ap (cellReading s′) (written-other p₀ v d n) ∙ (λ y. record { row = d .row; column = d .column; value = d .value; tokens = tokens-of y; trailing = trailing-of y })
 
     -- and that one has the new value
     pub here-read : d .field ≡ p₀ → cellReading s′ (write d) ≡ withValue v (cellReading s d)
-    unfolding tokensOf
-    here-read q = ap (cellReading s′) (written-here p₀ v d q) ∙ (λ y. record { row = d .row; column = d .column; value = v; tokens = tokens-of y })
+    unfolding tokensOf trailingBytes
+    here-read q = ap (cellReading s′) (written-here p₀ v d q) ∙ (λ y. record { row = d .row; column = d .column; value = v; tokens = tokens-of y; trailing = trailing-of y })

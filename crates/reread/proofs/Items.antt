@@ -14,7 +14,7 @@ use Rattle.le.proofs.Laws.{Same}
 use Rattle.record.specs.declared.Header.{Header}
 use Rattle.record.specs.declared.Header.the-variants.{Record, Cut, End}
 use Rattle.record.specs.Record.{headerAt}
-use Rattle.record.proofs.Laws.{whole}
+use Rattle.record.proofs.Laws.{Whole, whole}
 use Rattle.value.specs.declared.CellValue.{CellValue}
 use Rattle.cell.specs.declared.Shape.{Shape}
 use Rattle.cell.specs.declared.Cell.{Cell}
@@ -27,6 +27,7 @@ use Rattle.kept.proofs.Records.{cell-place}
 use Rattle.kept.proofs.Locality.{row-same, first-same, found-local}
 use Rattle.kept.proofs.Changed.{count-kept, tokens-kept, tokens-local}
 use Rattle.reading.specs.declared.Place.{Place}
+use Rattle.reading.specs.Reading.{trailingBytes}
 use Rattle.reading.specs.Cells.{otherItem, onFound, recordItem, onHeader, cellItem}
 use Rattle.reading.proofs.Laws.{found-there}
 use Rattle.chain.specs.Chain.{Beside}
@@ -34,6 +35,7 @@ use Rattle.chain.proofs.Chain.{over, beside-cases}
 use Rattle.reread.specs.Parts.{fieldFrom, fieldTo, Corrected, written}
 use Rattle.reread.proofs.Fields.{places-rise, above, places-differ, field-inside, inside, same-before, same-after, same-record, header-kept, record-kept}
 use Rattle.reread.proofs.Lists.{mapItem}
+use Rattle.reread.proofs.Trailing.{trailing-kept, trailing-local}
 
 -- ---- a cell that is written or stays
 pub written-here : (p : ℕ) (v : CellValue) (c : Cell) → c .field ≡ p → written p v c ≡ revalued c v
@@ -185,3 +187,19 @@ module _ {s s′ : List ℕ} {a t z e k : ℕ} {v : CellValue} (c : Corrected s 
 
   pub tokens-written : (x t₁ z₁ f j : ℕ) (d : Cell) → headerAt s x ≡ Record t₁ z₁ f → j < countOf (shapeOf t₁) s x z₁ → d ≡ cellOf s (fieldOf (shapeOf t₁)) x j → Beside s a e x → tokensOf s′ d ≡ tokensOf s d
   tokens-written x t₁ z₁ f j d o l i b = rw i (tokens-here x t₁ z₁ f j o l (beside-cases s a e (over s (c .whole)) x f b (over s o)))
+
+  -- ---- and the bytes after them
+  trailing-here : (x t₁ z₁ f j : ℕ) → headerAt s x ≡ Record t₁ z₁ f → headerAt s′ x ≡ Record t₁ z₁ f → j < countOf (shapeOf t₁) s x z₁ → (x ≡ a) ⊎ ((f ≤ a) ⊎ (e ≤ x)) → trailingBytes s′ (cellOf s (fieldOf (shapeOf t₁)) x j) ≡ trailingBytes s (cellOf s (fieldOf (shapeOf t₁)) x j)
+  trailing-here x t₁ z₁ f j o o′ l (inl q) =
+      let m = same-record c o q in
+      let b : j < countOf h₀ s a z = rw (q, m .0, m .1) at l in
+      let w : Whole s a t z f = whole s a t z f (rw (q, m .0, m .1) at o) in
+      let w′ : Whole s′ a t z f = whole s′ a t z f (rw (q, m .0, m .1) at o′) in
+      rw (q, m .0) (trailing-kept s s′ a z (w .size) (w′ .size) (omega arith) (omega arith) h₀ j k b (c .below) (same-after c (fieldTo t a k) (a + 4 + z) (omega arith)))
+  trailing-here x t₁ z₁ f j o o′ l (inr q) =
+      let w = whole s x t₁ z₁ f o in
+      let w′ = whole s′ x t₁ z₁ f o′ in
+      trailing-local s s′ x z₁ (w .size) (w′ .size) (omega arith) (omega arith) (shapeOf t₁) j l (λ y m n. record-kept c x f q y m (omega arith))
+
+  pub trailing-written : (x t₁ z₁ f j : ℕ) (d : Cell) → headerAt s x ≡ Record t₁ z₁ f → j < countOf (shapeOf t₁) s x z₁ → d ≡ cellOf s (fieldOf (shapeOf t₁)) x j → Beside s a e x → trailingBytes s′ d ≡ trailingBytes s d
+  trailing-written x t₁ z₁ f j d o l i b = rw i (trailing-here x t₁ z₁ f j o (sym (header-kept c x b) ∙ o) l (beside-cases s a e (over s (c .whole)) x f b (over s o)))

@@ -2,6 +2,7 @@ pub mod Lists
 pub mod Fields
 pub mod Records
 pub mod Found
+pub mod Trailing
 pub mod Items
 pub mod Cells
 pub mod Names

@@ -13,9 +13,9 @@ use Rattle.reading.specs.Reading.{CellReading, SheetReading, Reading}
 abbrev pub hasAddress : ℕ → ℕ → CellReading → Bool
 hasAddress row column c = eqb (c .row) row && eqb (c .column) column
 
--- a cell with another value: row, column and tokens stay
+-- a cell with another value: row, column, tokens and the bytes after them stay
 abbrev pub withValue : CellValue → CellReading → CellReading
-withValue v c = record { row = c .row; column = c .column; value = v; tokens = c .tokens }
+withValue v c = record { row = c .row; column = c .column; value = v; tokens = c .tokens; trailing = c .trailing }
 
 -- the cells of the address have the value, all others are as they were, in order
 abbrev pub replacedCell : ℕ → ℕ → CellValue → CellReading → CellReading

@@ -1,6 +1,6 @@
 // The five questions as C functions. Each is defined for every argument; a refusal's number is 0 where there is none, and what isn't answered is 0.
 ghost use mathlib.Core.Path.{_≡_};
-ghost use Rattle.formula.specs.Judge.{judgeOf};
+ghost use Rattle.judge.specs.Judge.{judgeOf};
 ghost use Rattle.workbook.specs.Check.{checkedOf};
 ghost use Rattle.listing.specs.Listing.{nextSheetOf, cellsOf};
 ghost use Rattle.reading.specs.Cells.{listedFrom};
@@ -132,10 +132,10 @@ pub extern "C" fn station_check(s: &[u8]) -> Check
 }
 
 #[no_mangle]
-pub extern "C" fn station_judge(tokens: &[u8]) -> Answer
-    ensures { λ r. ⌜ r ≡ judgeSeen (judgeOf (now (tokens .entry))) ⌝ }
+pub extern "C" fn station_judge(tokens: &[u8], trailing: &[u8]) -> Answer
+    ensures { λ r. ⌜ r ≡ judgeSeen (judgeOf (now (tokens .entry)) (now (trailing .entry))) ⌝ }
 {
-    match formula::judge(tokens) {
+    match judge::judge(tokens, trailing) {
         formula::Judgement::Accepted => Answer {
             number: 0,
             offset: 0,

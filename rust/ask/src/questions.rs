@@ -23,7 +23,7 @@ const QUESTIONS: [Question; 3] = [
     Question {
         name: "judge",
         words: "TOKENS TRAILING",
-        asks: "whether a formula's bytes are right; TRAILING is - in this version",
+        asks: "whether a formula's tokens, and the bytes after them, are right",
         answer: judge,
     },
     Question {
@@ -79,11 +79,7 @@ fn judge(words: &[&[u8]]) -> Option<String> {
     let [tokens, trailing] = words else {
         return None;
     };
-    // The library judges no trailing bytes yet.
-    if !bytes(trailing)?.is_empty() {
-        return None;
-    }
-    Some(settled(station::judge(&bytes(tokens)?)))
+    Some(settled(station::judge(&bytes(tokens)?, &bytes(trailing)?)))
 }
 
 fn cells(words: &[&[u8]]) -> Option<String> {

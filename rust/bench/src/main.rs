@@ -27,7 +27,9 @@ impl Best {
     }
 }
 
-/// What a listing comes to: every field of each cell counts, so that neither side can leave one out. `tokens` is how many bytes a formula has.
+/// What a listing comes to: every field of each cell counts, so that neither side can leave one out. `tokens` and `trailing` are how many bytes a
+/// formula has.
+#[allow(clippy::too_many_arguments)]
 fn with(
     sum: u64,
     row: u16,
@@ -36,9 +38,10 @@ fn with(
     bits: u64,
     field: usize,
     tokens: usize,
+    trailing: usize,
 ) -> u64 {
     let address = u64::from(format) << 32 | u64::from(column) << 16 | u64::from(row);
-    sum.rotate_left(5) ^ (address ^ bits ^ (field ^ tokens << 32) as u64)
+    sum.rotate_left(5) ^ (address ^ bits ^ (field ^ tokens << 32 ^ trailing << 48) as u64)
 }
 
 /// The first sheet, where the made streams have their cells; 0 where there is none.
@@ -54,6 +57,7 @@ fn list_ours(stream: &[u8]) -> u64 {
                 cell.bits(),
                 field,
                 cell.tokens().len(),
+                cell.trailing().len(),
             )
         })
     })
@@ -84,6 +88,7 @@ fn list_theirs(stream: &[u8]) -> u64 {
             bits,
             field,
             cell.tokens.len(),
+            cell.trailing.len(),
         );
     });
     listed.map_or(0, |()| sum)

@@ -3,6 +3,7 @@
 //! exit status is 1 where there was a difference, or where a refusal was met fewer than a hundred times in a run of 100,000 seeds or more.
 
 use std::fmt::Debug;
+use std::ops::Range;
 use std::process::ExitCode;
 use std::time::Instant;
 
@@ -94,6 +95,7 @@ impl Comparison {
         let cells: Vec<_> = sheet.cells().map(|cell| of_ours(&cell)).collect();
         let others: Vec<_> = other.cells.iter().map(of_theirs).collect();
         self.hold("cells", seed, cells, others);
+        self.listed_formulas(seed, stream, &other.cells);
     }
 
     /// Each string, into a buffer with room to spare and into one a unit short.
@@ -118,10 +120,26 @@ impl Comparison {
     }
 
     fn judge(&mut self, seed: u64) {
-        let tokens = streams::formula(seed);
-        let one = ours(station::judge(&tokens));
+        let formula = streams::formula(seed);
+        self.formula("judge", seed, &formula.tokens, &formula.trailing);
+    }
+
+    fn formula(&mut self, question: &str, seed: u64, tokens: &[u8], trailing: &[u8]) {
+        let one = ours(station::judge(tokens, trailing));
+        let two = theirs(second_reader::judge(tokens, trailing));
         self.count(&one);
-        self.hold("judge", seed, one, theirs(second_reader::judge(&tokens)));
+        self.hold(question, seed, one, two);
+    }
+
+    /// The formulas of a sheet, as they are listed.
+    fn listed_formulas(&mut self, seed: u64, stream: &[u8], cells: &[second_reader::Cell]) {
+        for cell in cells {
+            if let second_reader::Value::Formula(_) = cell.value {
+                let tokens = &stream[cell.tokens.clone()];
+                let trailing = &stream[cell.trailing.clone()];
+                self.formula("judge a listed formula", seed, tokens, trailing);
+            }
+        }
     }
 
     fn correct(&mut self, seed: u64, stream: &[u8]) {
@@ -171,52 +189,44 @@ impl Comparison {
     }
 }
 
-/// A cell in one form: row, column, format, value, and where the value and a formula's tokens stand, which a blank and other cells don't have.
+/// A cell in one form: row, column, format, value, and where the value, a formula's tokens and the bytes after them stand, which a blank and other
+/// cells don't have.
 type Plain = (
     u16,
     u16,
     u16,
     second_reader::Value,
     Option<usize>,
-    Option<(usize, usize)>,
+    Option<(Range<usize>, Range<usize>)>,
 );
 
 fn of_theirs(cell: &second_reader::Cell) -> Plain {
     plain(
-        cell.row,
-        cell.column,
-        cell.format,
+        (cell.row, cell.column, cell.format),
         cell.value,
         cell.value_field.start,
-        cell.tokens.start,
-        cell.tokens.end,
+        (cell.tokens.clone(), cell.trailing.clone()),
     )
 }
 
 fn of_ours(cell: &station::Cell) -> Plain {
     plain(
-        cell.row(),
-        cell.column(),
-        cell.format(),
+        (cell.row(), cell.column(), cell.format()),
         value_of(cell.value()),
         cell.field(),
-        cell.tokens().start,
-        cell.tokens().end,
+        (cell.tokens(), cell.trailing()),
     )
 }
 
 fn plain(
-    row: u16,
-    column: u16,
-    format: u16,
+    (row, column, format): (u16, u16, u16),
     value: second_reader::Value,
     field: usize,
-    start: usize,
-    end: usize,
+    parts: (Range<usize>, Range<usize>),
 ) -> Plain {
     let field = (value != second_reader::Value::Blank).then_some(field);
-    let tokens = matches!(value, second_reader::Value::Formula(_)).then_some((start, end));
-    (row, column, format, value, field, tokens)
+    let parts = matches!(value, second_reader::Value::Formula(_)).then_some(parts);
+    (row, column, format, value, field, parts)
 }
 
 fn value_of(value: station::Value) -> second_reader::Value {

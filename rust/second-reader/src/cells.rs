@@ -52,6 +52,9 @@ pub struct Cell {
     pub value: Value,
     /// Where a formula's tokens stand in the stream; empty at 0 for others.
     pub tokens: Range<usize>,
+    /// Where the bytes after a formula's tokens stand, to its record's end;
+    /// empty at 0 for others.
+    pub trailing: Range<usize>,
     /// Where the value stands in the stream: an f64, its own RK word, an index,
     /// a formula result or two bytes of truth or error. Empty at 0 for a blank.
     pub value_field: Range<usize>,
@@ -117,6 +120,7 @@ fn cell(
         format: u16::from_le_bytes([format0, format1]),
         value,
         tokens: 0..0,
+        trailing: 0..0,
         value_field: body_at + field.start..body_at + field.end,
     })
 }
@@ -192,9 +196,11 @@ fn formula(record: &Record<'_>) -> Result<Cell, u8> {
         return Err(6);
     }
     let tokens_at = record.body_at() + 22;
+    let tokens_end = tokens_at + length;
     let value = Value::Formula(formula_result(result)?);
     Ok(Cell {
-        tokens: tokens_at..tokens_at + length,
+        tokens: tokens_at..tokens_end,
+        trailing: tokens_end..tokens_at + rest.len(),
         ..cell(record, &start, value, 6..14)?
     })
 }
@@ -247,6 +253,7 @@ fn each_rk<F: FnMut(Cell)>(record: &Record<'_>, mut take: F) -> Result<(), u8> {
             format: u16::from_le_bytes(format),
             value: Value::Number(bits),
             tokens: 0..0,
+            trailing: 0..0,
             value_field: field_at + 2..field_at + 6,
         });
         field_at += 6;
@@ -264,6 +271,7 @@ fn each_blank<F: FnMut(Cell)>(record: &Record<'_>, mut take: F) -> Result<(), u8
             format: u16::from_le_bytes(format),
             value: Value::Blank,
             tokens: 0..0,
+            trailing: 0..0,
             value_field: 0..0,
         });
     }

@@ -1,10 +1,12 @@
-//! Judging formula bytes.
+//! Judging formula bytes: the tokens first, then the data that some of them have
+//! in the bytes after all tokens.
 //!
 //! Formulas inside memory tokens are kept on a list of open formulas, each with
 //! its own count of operands, so one loop over the bytes is enough.
 
 use crate::cells::{is_error_code, is_truth};
 use crate::functions::argument_counts;
+use crate::trailing::{self, Data};
 use crate::Refusal;
 
 const LONGEST_FORMULA: usize = 1_800;
@@ -29,11 +31,20 @@ enum Token {
     Memory { head: usize, inner: usize },
 }
 
-/// Judges the bytes of a whole formula.
-pub fn judge(tokens: &[u8]) -> Result<(), Refusal> {
+/// Judges a whole formula: its tokens and the bytes after them. Offsets in the
+/// latter are counted on from the tokens' end.
+pub fn judge(tokens: &[u8], trailing: &[u8]) -> Result<(), Refusal> {
+    let wanted = judge_tokens(tokens)?;
+    trailing::judge(&wanted, trailing).map_err(|at| Refusal::new(13, tokens.len() + at))
+}
+
+/// Judges the tokens, and gives the data that they want after them, in token
+/// order.
+fn judge_tokens(tokens: &[u8]) -> Result<Vec<Data>, Refusal> {
     if !(1..=LONGEST_FORMULA).contains(&tokens.len()) {
         return Err(Refusal::new(13, 0));
     }
+    let mut wanted = Vec::new();
     let mut outer: Vec<Open> = Vec::with_capacity(MEMORY_DEPTHS);
     let mut open = Open {
         end: tokens.len(),
@@ -46,13 +57,14 @@ pub fn judge(tokens: &[u8]) -> Result<(), Refusal> {
                 return Err(Refusal::new(14, at));
             }
             match outer.pop() {
-                None => return Ok(()),
+                None => return Ok(wanted),
                 Some(holder) => open = holder,
             }
             open.operands += 1;
         }
         let whole = outer.is_empty() && tokens.len() == 5;
         let refuse = |number| Refusal::new(number, at);
+        wanted.extend(Data::of_token(tokens[at]));
         match token(&tokens[at..open.end], whole).map_err(refuse)? {
             Token::Step { size, takes, gives } => {
                 let left = open.operands.checked_sub(takes).ok_or(refuse(14))?;
@@ -97,12 +109,13 @@ fn token(rest: &[u8], whole: bool) -> Result<Token, u8> {
 /// A token of any class, by its byte in the first class.
 fn classed(first: u8, data: &[u8]) -> Result<Token, u8> {
     match first {
+        0x20 => operand(data, 7),
         0x21 => fixed_function(data),
         0x22 => counted_function(data),
         0x23 | 0x2A | 0x2C => operand(data, 4),
         0x24 => reference(data, 4, &[2]),
         0x25 => reference(data, 8, &[4, 6]),
-        0x27 | 0x28 => memory(data, 4),
+        0x26..=0x28 => memory(data, 4),
         0x29 => memory(data, 0),
         0x2B | 0x2D => operand(data, 8),
         0x39 | 0x3C => operand(data, 6),

@@ -24,6 +24,7 @@ mod rk;
 mod sheets;
 mod strings;
 mod survey;
+mod trailing;
 
 pub use cells::{Cell, FormulaResult, Value};
 pub use correction::{correct, NewValue};

@@ -1,6 +1,9 @@
 //! K7: 0x22 for functions of a fixed count.
 
-use second_reader::{judge, Refusal};
+mod common;
+
+use common::judge_tokens;
+use second_reader::Refusal;
 
 fn refusal(number: u8, offset: usize) -> Result<(), Refusal> {
     Err(Refusal { number, offset })
@@ -8,7 +11,7 @@ fn refusal(number: u8, offset: usize) -> Result<(), Refusal> {
 
 /// The answer to so many operands of one byte each and a token after them.
 fn after_operands(count: usize, token: &[u8]) -> Result<(), Refusal> {
-    judge(&[&vec![0x16; count], token].concat())
+    judge_tokens(&[&vec![0x16; count], token].concat())
 }
 
 /// 0x22 with this count byte.
@@ -24,8 +27,8 @@ const FIXED: [(u16, u8); 5] = [(221, 0), (15, 1), (39, 2), (31, 3), (143, 4)];
 
 #[test]
 fn h1_functions_of_no_arguments() {
-    assert_eq!(judge(&[0x42, 0x00, 0xDD, 0x00]), Ok(()));
-    assert_eq!(judge(&[0x42, 0x80, 0xDD, 0x00]), Ok(()));
+    assert_eq!(judge_tokens(&[0x42, 0x00, 0xDD, 0x00]), Ok(()));
+    assert_eq!(judge_tokens(&[0x42, 0x80, 0xDD, 0x00]), Ok(()));
     assert_eq!(after_operands(1, &[0x42, 0x01, 0xDD, 0x00]), refusal(15, 1));
     assert_eq!(after_operands(1, &[0x42, 0x81, 0xDD, 0x00]), refusal(15, 1));
 }

@@ -720,14 +720,14 @@ fn a36_nothing_is_cut_down() {
 
 #[test]
 fn a39_lengths() {
-    assert_eq!(judge(&[]), refusal(13, 0));
+    assert_eq!(judge_tokens(&[]), refusal(13, 0));
     let mut tokens = vec![0x1E, 1, 0];
     tokens.resize(1_800, 0x12);
-    assert_eq!(judge(&tokens), Ok(()));
+    assert_eq!(judge_tokens(&tokens), Ok(()));
     tokens.push(0x12);
-    assert_eq!(judge(&tokens), refusal(13, 0));
-    assert_eq!(judge(&[3; 1_801]), refusal(13, 0));
-    assert_eq!(judge(&[3; 1_800]), refusal(14, 0));
+    assert_eq!(judge_tokens(&tokens), refusal(13, 0));
+    assert_eq!(judge_tokens(&[3; 1_801]), refusal(13, 0));
+    assert_eq!(judge_tokens(&[3; 1_800]), refusal(14, 0));
 }
 
 /// So many operands, then these bytes.
@@ -740,7 +740,7 @@ fn a40_functions() {
     let variable = |count: u8, index: u16| {
         let [low, high] = index.to_le_bytes();
         let count_of = usize::from(count & 0x7F);
-        judge(&after_operands(count_of, &[0x42, count, low, high])).map_err(|r| r.number)
+        judge_tokens(&after_operands(count_of, &[0x42, count, low, high])).map_err(|r| r.number)
     };
     assert_eq!(variable(0, 255), Err(15));
     assert_eq!(variable(1, 255), Ok(()));
@@ -753,7 +753,7 @@ fn a40_functions() {
     assert_eq!(variable(1, 367), Ok(()));
     let fixed = |count, index: u16| {
         let [low, high] = index.to_le_bytes();
-        judge(&after_operands(count, &[0x21, low, high])).map_err(|r| (r.number, r.offset))
+        judge_tokens(&after_operands(count, &[0x21, low, high])).map_err(|r| (r.number, r.offset))
     };
     assert_eq!(fixed(1, 15), Ok(()));
     assert_eq!(fixed(1, 15 | 0x8000), Err((15, 1)));
@@ -767,7 +767,7 @@ fn a40_functions() {
 fn a41_if_and_getpivotdata() {
     let accepted = |index: u8, high: u8| {
         (0u8..=127).filter(move |&count| {
-            judge(&after_operands(
+            judge_tokens(&after_operands(
                 usize::from(count),
                 &[0x22, count, index, high],
             ))
@@ -780,31 +780,31 @@ fn a41_if_and_getpivotdata() {
 
 #[test]
 fn a45_the_first_token_at_fault_decides() {
-    assert_eq!(judge(&[0x03, 0xFF]), refusal(14, 0));
+    assert_eq!(judge_tokens(&[0x03, 0xFF]), refusal(14, 0));
     // Per token 13, then 15, then 14.
-    assert_eq!(judge(&[0x42, 9, 0xCA]), refusal(13, 0));
-    assert_eq!(judge(&[0x42, 9, 0xCA, 0]), refusal(15, 0));
-    assert_eq!(judge(&[0x42, 2, 1, 0]), refusal(14, 0));
+    assert_eq!(judge_tokens(&[0x42, 9, 0xCA]), refusal(13, 0));
+    assert_eq!(judge_tokens(&[0x42, 9, 0xCA, 0]), refusal(15, 0));
+    assert_eq!(judge_tokens(&[0x42, 2, 1, 0]), refusal(14, 0));
 }
 
 #[test]
 fn a46_memory_tokens() {
-    assert_eq!(judge(&[0x29, 2, 0, 0x03, 0xFF]), refusal(14, 3));
-    assert_eq!(judge(&[0x29, 0, 0, 0x16]), refusal(13, 0));
-    assert_eq!(judge(&[0x29, 2, 0, 0x16, 0x16]), refusal(14, 5));
-    assert_eq!(judge(&[0x29, 1, 0, 0x16, 0x16]), refusal(14, 5));
-    assert_eq!(judge(&[0x27, 9, 9, 9, 9, 1, 0, 0x16]), Ok(()));
-    assert_eq!(judge(&[0x68, 9, 9, 9, 9, 1, 0, 0x16]), Ok(()));
-    assert_eq!(judge(&[0x27, 9, 9, 9, 9, 1]), refusal(13, 0));
+    assert_eq!(judge_tokens(&[0x29, 2, 0, 0x03, 0xFF]), refusal(14, 3));
+    assert_eq!(judge_tokens(&[0x29, 0, 0, 0x16]), refusal(13, 0));
+    assert_eq!(judge_tokens(&[0x29, 2, 0, 0x16, 0x16]), refusal(14, 5));
+    assert_eq!(judge_tokens(&[0x29, 1, 0, 0x16, 0x16]), refusal(14, 5));
+    assert_eq!(judge_tokens(&[0x27, 9, 9, 9, 9, 1, 0, 0x16]), Ok(()));
+    assert_eq!(judge_tokens(&[0x68, 9, 9, 9, 9, 1, 0, 0x16]), Ok(()));
+    assert_eq!(judge_tokens(&[0x27, 9, 9, 9, 9, 1]), refusal(13, 0));
     // The length is counted against the formula that holds it directly.
     let outreaching = [0x29, 4, 0, 0x29, 2, 0, 0x16, 0x15];
-    assert_eq!(judge(&outreaching), refusal(13, 3));
+    assert_eq!(judge_tokens(&outreaching), refusal(13, 3));
     // A token may not reach over the end of the inner formula.
     let cut = [0x29, 2, 0, 0x1E, 1, 0];
-    assert_eq!(judge(&cut), refusal(13, 3));
+    assert_eq!(judge_tokens(&cut), refusal(13, 3));
     // Its own fault comes before one of an outer token after it.
-    assert_eq!(judge(&[0x29, 1, 0, 0x12, 0xFF]), refusal(14, 3));
-    assert_eq!(judge(&[0x29, 1, 0, 0x16, 0xFF]), refusal(13, 4));
+    assert_eq!(judge_tokens(&[0x29, 1, 0, 0x12, 0xFF]), refusal(14, 3));
+    assert_eq!(judge_tokens(&[0x29, 1, 0, 0x16, 0xFF]), refusal(13, 4));
 }
 
 /// An operand inside so many memory tokens.
@@ -818,32 +818,34 @@ fn in_memory(depth: usize) -> Vec<u8> {
 #[test]
 fn a47_nesting() {
     for depth in 0..=8 {
-        assert_eq!(judge(&in_memory(depth)), Ok(()));
+        assert_eq!(judge_tokens(&in_memory(depth)), Ok(()));
     }
-    assert_eq!(judge(&in_memory(9)), refusal(13, 24));
-    assert_eq!(judge(&in_memory(10)), refusal(13, 24));
+    assert_eq!(judge_tokens(&in_memory(9)), refusal(13, 24));
+    assert_eq!(judge_tokens(&in_memory(10)), refusal(13, 24));
     let side_by_side = [in_memory(8), in_memory(8), vec![3]].concat();
-    assert_eq!(judge(&side_by_side), Ok(()));
+    assert_eq!(judge_tokens(&side_by_side), Ok(()));
 }
 
 #[test]
 fn a48_tokens_that_stand_alone() {
     for first in [0x01, 0x02] {
-        assert_eq!(judge(&[first, 9, 9, 9, 9]), Ok(()));
-        assert_eq!(judge(&[first, 9, 9, 9]), refusal(13, 0));
-        assert_eq!(judge(&[first, 9, 9, 9, 9, 0x15]), refusal(13, 0));
-        assert_eq!(judge(&[0x16, first, 9, 9, 9]), refusal(13, 1));
-        assert_eq!(judge(&[0x16, first, 9, 9, 9, 9]), refusal(13, 1));
-        assert_eq!(judge(&[0x29, 5, 0, first, 9, 9, 9, 9]), refusal(13, 3));
-        assert_eq!(judge(&[0x29, 2, 0, first, 9]), refusal(13, 3));
+        assert_eq!(judge_tokens(&[first, 9, 9, 9, 9]), Ok(()));
+        assert_eq!(judge_tokens(&[first, 9, 9, 9]), refusal(13, 0));
+        assert_eq!(judge_tokens(&[first, 9, 9, 9, 9, 0x15]), refusal(13, 0));
+        assert_eq!(judge_tokens(&[0x16, first, 9, 9, 9]), refusal(13, 1));
+        assert_eq!(judge_tokens(&[0x16, first, 9, 9, 9, 9]), refusal(13, 1));
+        assert_eq!(
+            judge_tokens(&[0x29, 5, 0, first, 9, 9, 9, 9]),
+            refusal(13, 3)
+        );
+        assert_eq!(judge_tokens(&[0x29, 2, 0, first, 9]), refusal(13, 3));
     }
 }
 
 #[test]
 fn a49_tokens_that_are_unknown() {
     let zeros = [0; 40];
-    let unknown_classed =
-        |first: u8| matches!(first & 0x1F | 0x20, 0x20 | 0x26 | 0x2E..=0x38 | 0x3E | 0x3F);
+    let unknown_classed = |first: u8| matches!(first & 0x1F | 0x20, 0x2E..=0x38 | 0x3E | 0x3F);
     for first in 0..=255u8 {
         let unknown = match first {
             0x00 | 0x18 | 0x1A | 0x1B => true,
@@ -854,10 +856,10 @@ fn a49_tokens_that_are_unknown() {
         // Two operands before it, so that what is known and whole passes it.
         let mut tokens = vec![0x16, 0x16, first];
         tokens.extend(zeros);
-        let refused_here = judge(&tokens) == refusal(13, 2);
+        let refused_here = judge_tokens(&tokens) == refusal(13, 2);
         let misplaced = matches!(first, 0x01 | 0x02);
         let empty_memory =
-            matches!(first & 0x1F | 0x20, 0x27..=0x29) && (0x20..0x80).contains(&first);
+            matches!(first & 0x1F | 0x20, 0x26..=0x29) && (0x20..0x80).contains(&first);
         let no_kind = first == 0x19;
         assert_eq!(
             refused_here,
@@ -870,27 +872,27 @@ fn a49_tokens_that_are_unknown() {
         let tokens = [0x16, 0x19, which, 0, 0, 0, 0];
         let tokens = &tokens[..if which == 4 { 7 } else { 5 }];
         let expected = if known { Ok(()) } else { refusal(13, 1) };
-        assert_eq!(judge(tokens), expected, "{which:02X}");
+        assert_eq!(judge_tokens(tokens), expected, "{which:02X}");
     }
 }
 
 #[test]
 fn a50_operands_of_paren_and_attributes() {
-    assert_eq!(judge(&[0x15]), refusal(14, 0));
-    assert_eq!(judge(&[0x16, 0x15]), Ok(()));
-    assert_eq!(judge(&[0x19, 0x10, 9, 9]), refusal(14, 0));
-    assert_eq!(judge(&[0x16, 0x19, 0x10, 9, 9]), Ok(()));
+    assert_eq!(judge_tokens(&[0x15]), refusal(14, 0));
+    assert_eq!(judge_tokens(&[0x16, 0x15]), Ok(()));
+    assert_eq!(judge_tokens(&[0x19, 0x10, 9, 9]), refusal(14, 0));
+    assert_eq!(judge_tokens(&[0x16, 0x19, 0x10, 9, 9]), Ok(()));
     for which in [0x01, 0x02, 0x08, 0x40, 0x41] {
-        assert_eq!(judge(&[0x19, which, 9, 9, 0x16]), Ok(()));
-        assert_eq!(judge(&[0x16, 0x19, which, 9, 9]), Ok(()));
-        assert_eq!(judge(&[0x19, which, 9, 9]), refusal(14, 4));
-        assert_eq!(judge(&[0x19, which, 9]), refusal(13, 0));
+        assert_eq!(judge_tokens(&[0x19, which, 9, 9, 0x16]), Ok(()));
+        assert_eq!(judge_tokens(&[0x16, 0x19, which, 9, 9]), Ok(()));
+        assert_eq!(judge_tokens(&[0x19, which, 9, 9]), refusal(14, 4));
+        assert_eq!(judge_tokens(&[0x19, which, 9]), refusal(13, 0));
     }
     let choose = |n: u16, words: usize| {
         let [low, high] = n.to_le_bytes();
         let mut tokens = vec![0x16, 0x19, 0x04, low, high];
         tokens.resize(5 + 2 * words, 0xEE);
-        judge(&tokens)
+        judge_tokens(&tokens)
     };
     assert_eq!(choose(0, 1), Ok(()));
     assert_eq!(choose(0, 0), refusal(13, 1));
@@ -922,14 +924,14 @@ fn data_sizes_and_column_words() {
         for class in classes {
             let mut tokens = vec![0; 1 + size];
             tokens[0] = first + class;
-            assert_eq!(judge(&tokens), Ok(()), "{first:02X}");
-            assert_eq!(judge(&tokens[..size]), refusal(13, 0), "{first:02X}");
+            assert_eq!(judge_tokens(&tokens), Ok(()), "{first:02X}");
+            assert_eq!(judge_tokens(&tokens[..size]), refusal(13, 0), "{first:02X}");
             // Which data bytes have bits that are judged.
             let judged: Vec<usize> = (1..=size)
                 .filter(|&at| {
                     let mut changed = tokens.clone();
                     changed[at] = 0x3F;
-                    judge(&changed).is_err()
+                    judge_tokens(&changed).is_err()
                 })
                 .collect();
             let columns: &[usize] = match first {
@@ -944,21 +946,21 @@ fn data_sizes_and_column_words() {
                 for bit in 0..8 {
                     let mut changed = tokens.clone();
                     changed[at] = 1 << bit;
-                    assert_eq!(judge(&changed).is_ok(), bit >= 6);
+                    assert_eq!(judge_tokens(&changed).is_ok(), bit >= 6);
                 }
             }
         }
     }
-    assert_eq!(judge(&[0x17, 2, 0xFE, 9, 9]), Ok(()));
-    assert_eq!(judge(&[0x17, 2, 0x01, 9, 9, 9, 9]), Ok(()));
-    assert_eq!(judge(&[0x17, 0, 0x01]), Ok(()));
-    assert_eq!(judge(&[0x17, 2, 0x01, 9, 9, 9]), refusal(13, 0));
-    assert_eq!(judge(&[0x17, 0]), refusal(13, 0));
-    assert_eq!(judge(&[0x1C, 0x2A]), Ok(()));
-    assert_eq!(judge(&[0x1C, 0x2B]), refusal(13, 0));
-    assert_eq!(judge(&[0x1D, 1]), Ok(()));
-    assert_eq!(judge(&[0x1D, 2]), refusal(13, 0));
-    assert_eq!(judge(&[0x1D]), refusal(13, 0));
+    assert_eq!(judge_tokens(&[0x17, 2, 0xFE, 9, 9]), Ok(()));
+    assert_eq!(judge_tokens(&[0x17, 2, 0x01, 9, 9, 9, 9]), Ok(()));
+    assert_eq!(judge_tokens(&[0x17, 0, 0x01]), Ok(()));
+    assert_eq!(judge_tokens(&[0x17, 2, 0x01, 9, 9, 9]), refusal(13, 0));
+    assert_eq!(judge_tokens(&[0x17, 0]), refusal(13, 0));
+    assert_eq!(judge_tokens(&[0x1C, 0x2A]), Ok(()));
+    assert_eq!(judge_tokens(&[0x1C, 0x2B]), refusal(13, 0));
+    assert_eq!(judge_tokens(&[0x1D, 1]), Ok(()));
+    assert_eq!(judge_tokens(&[0x1D, 2]), refusal(13, 0));
+    assert_eq!(judge_tokens(&[0x1D]), refusal(13, 0));
 }
 
 // The program.
@@ -1025,7 +1027,7 @@ fn names_formats_and_fields_are_where_they_stand() {
     let number = book.record(NUMBER, &number_body(5));
     let packed = book.record(MULRK, &mulrk_body(1, &[2, 6], 2));
     let blank = book.record(BLANK, &[0, 0, 0, 0, 7, 8]);
-    let formula = book.record(FORMULA, &formula_body([0; 8], &[1, 2], &[]));
+    let formula = book.record(FORMULA, &formula_body([0; 8], &[1, 2], &[9; 5]));
     book.eof();
     let sheet = read(&book.bytes).unwrap().sheets.remove(0);
     assert!(sheet.wide);
@@ -1047,6 +1049,15 @@ fn names_formats_and_fields_are_where_they_stand() {
             formula + 10..formula + 18,
         ]
     );
+    let parts: Vec<_> = sheet
+        .cells
+        .iter()
+        .map(|cell| (cell.tokens.clone(), cell.trailing.clone()))
+        .collect();
+    let nothing = (0..0, 0..0);
+    let of_formula = (formula + 26..formula + 28, formula + 28..formula + 33);
+    assert_eq!(parts[4], of_formula);
+    assert!(parts[..4].iter().all(|part| *part == nothing));
     let formats: Vec<_> = sheet.cells.iter().map(|cell| cell.format).collect();
     assert_eq!(formats, [3, 3, 3, 0x0807, 3]);
     let mut listed = Vec::new();

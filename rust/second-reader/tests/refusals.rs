@@ -288,9 +288,9 @@ fn numbers_11_and_12() {
 
 #[test]
 fn numbers_13_to_15() {
-    assert_eq!(judge(&[0]).unwrap_err().number, 13);
-    assert_eq!(judge(&[3]).unwrap_err().number, 14);
-    assert_eq!(judge(&[0x41, 0xFF, 0]).unwrap_err().number, 15);
+    assert_eq!(judge_tokens(&[0]).unwrap_err().number, 13);
+    assert_eq!(judge_tokens(&[3]).unwrap_err().number, 14);
+    assert_eq!(judge_tokens(&[0x41, 0xFF, 0]).unwrap_err().number, 15);
 }
 
 #[test]

@@ -37,15 +37,15 @@ fn packing() {
 
 #[test]
 fn formulas() {
-    assert_eq!(judge(&[0x44, 0, 0, 0, 0xC0, 0x1E, 1, 0, 3]), Ok(()));
-    assert_eq!(judge(&[3]), Err(refusal(14, 0)));
-    assert_eq!(judge(&[0x1E, 1, 0, 0x1E, 1, 0]), Err(refusal(14, 6)));
-    assert_eq!(judge(&[0x1E, 1]), Err(refusal(13, 0)));
-    assert_eq!(judge(&[0x41, 0xDD, 0]), Ok(()));
-    assert_eq!(judge(&[0x41, 0xCA, 0]), Err(refusal(15, 0)));
-    assert_eq!(judge(&[0x41, 0xD8, 0]), Err(refusal(15, 0)));
-    assert_eq!(judge(&[0x29, 3, 0, 0x1E, 1, 0]), Ok(()));
-    assert_eq!(judge(&[0x29, 4, 0, 0x1E, 1, 0]), Err(refusal(13, 0)));
+    assert_eq!(judge_tokens(&[0x44, 0, 0, 0, 0xC0, 0x1E, 1, 0, 3]), Ok(()));
+    assert_eq!(judge_tokens(&[3]), Err(refusal(14, 0)));
+    assert_eq!(judge_tokens(&[0x1E, 1, 0, 0x1E, 1, 0]), Err(refusal(14, 6)));
+    assert_eq!(judge_tokens(&[0x1E, 1]), Err(refusal(13, 0)));
+    assert_eq!(judge_tokens(&[0x41, 0xDD, 0]), Ok(()));
+    assert_eq!(judge_tokens(&[0x41, 0xCA, 0]), Err(refusal(15, 0)));
+    assert_eq!(judge_tokens(&[0x41, 0xD8, 0]), Err(refusal(15, 0)));
+    assert_eq!(judge_tokens(&[0x29, 3, 0, 0x1E, 1, 0]), Ok(()));
+    assert_eq!(judge_tokens(&[0x29, 4, 0, 0x1E, 1, 0]), Err(refusal(13, 0)));
 }
 
 #[test]
@@ -101,7 +101,7 @@ fn errors_met_before() {
     assert_eq!(decode_rk(0x4059_0001), Some(1f64.to_bits()));
     // A memory token's inner bytes borrowing the outer stack.
     let borrowing = [0x1E, 1, 0, 0x29, 1, 0, 0x12];
-    assert_eq!(judge(&borrowing), Err(refusal(14, 6)));
+    assert_eq!(judge_tokens(&borrowing), Err(refusal(14, 6)));
     // MULRK columns counted from 0.
     let sheet = sheet_with(0, MULRK, &mulrk_body(7, &[2, 6], 8));
     let columns: Vec<_> = read(&sheet.bytes).unwrap().sheets[0]

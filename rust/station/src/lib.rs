@@ -17,7 +17,7 @@
 //! let cell = station::cells(&stream, 0)?.find(|cell| (cell.row(), cell.column()) == (0, 1));
 //! assert_eq!(cell.map(|cell| cell.value()), Some(Value::Number(2.5f64.to_bits())));
 //!
-//! let refused = station::judge(&[0x1E, 0x01]).expect_err("a cut token");
+//! let refused = station::judge(&[0x1E, 0x01], &[]).expect_err("a cut token");
 //! assert_eq!((refused.number, refused.offset), (13, 0));
 //! # Ok::<(), station::Refusal>(())
 //! ```
@@ -151,10 +151,17 @@ impl<'a> Workbook<'a> {
     }
 }
 
-/// Judges a formula's token bytes.
-pub fn judge(tokens: &[u8]) -> Result<(), Refusal> {
-    // SAFETY: the slice is valid for its length.
-    let answer = unsafe { raw::station_judge(tokens.as_ptr(), tokens.len()) };
+/// Judges a formula: its tokens, and the bytes after them. An offset in the latter is counted on from the tokens' end.
+pub fn judge(tokens: &[u8], trailing: &[u8]) -> Result<(), Refusal> {
+    // SAFETY: both slices are valid for their lengths.
+    let answer = unsafe {
+        raw::station_judge(
+            tokens.as_ptr(),
+            tokens.len(),
+            trailing.as_ptr(),
+            trailing.len(),
+        )
+    };
     settled(answer.number, answer.offset)
 }
 
@@ -447,7 +454,13 @@ impl Cell {
     /// Where a formula's tokens stand; empty for other cells.
     pub fn tokens(&self) -> Range<usize> {
         let start = self.field() + 16;
-        start..start + self.0[3] as usize
+        start..start + usize::from(self.0[3] as u16)
+    }
+
+    /// Where the bytes after a formula's tokens stand, to the end of its record; empty for other cells.
+    pub fn trailing(&self) -> Range<usize> {
+        let start = self.tokens().end;
+        start..start + usize::from((self.0[3] >> 16) as u16)
     }
 }
 
@@ -467,6 +480,7 @@ impl fmt::Debug for Cell {
             .field("value", &self.value())
             .field("field", &self.field())
             .field("tokens", &self.tokens())
+            .field("trailing", &self.trailing())
             .finish()
     }
 }

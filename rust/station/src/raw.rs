@@ -70,7 +70,12 @@ pub struct Filled {
 extern "C" {
     pub fn station_version() -> u32;
     pub fn station_check(stream: *const u8, length: usize) -> Check;
-    pub fn station_judge(tokens: *const u8, length: usize) -> Answer;
+    pub fn station_judge(
+        tokens: *const u8,
+        length: usize,
+        trailing: *const u8,
+        trailing_length: usize,
+    ) -> Answer;
     pub fn station_fetch(
         stream: *const u8,
         length: usize,

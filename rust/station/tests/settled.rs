@@ -1,9 +1,13 @@
 //! The cases that document 01 settles by example, asked of the compiled library.
 
-use station::{check, judge, FormulaResult, Refusal, Value};
+use station::{check, FormulaResult, Refusal, Value};
 
 fn refused(number: u8, offset: usize) -> Result<(), Refusal> {
     Err(Refusal { number, offset })
+}
+
+fn judge(tokens: &[u8]) -> Result<(), Refusal> {
+    station::judge(tokens, &[])
 }
 
 #[test]

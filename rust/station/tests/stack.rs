@@ -106,7 +106,8 @@ const QUESTIONS: [(&str, Question); 10] = [
     }),
     ("station_judge", |desk| {
         let Desk { tokens, .. } = desk;
-        black_box(unsafe { raw::station_judge(tokens.as_ptr(), tokens.len()) });
+        let (start, length) = (tokens.as_ptr(), tokens.len());
+        black_box(unsafe { raw::station_judge(start, length, start, 0) });
     }),
     ("station_fetch", |desk| {
         let Desk { stream, units, .. } = desk;
@@ -179,7 +180,7 @@ fn deepest_formula() -> Vec<u8> {
         let length = (tokens.len() as u16).to_le_bytes();
         tokens.splice(0..0, [0x29, length[0], length[1]]);
     }
-    assert_eq!(station::judge(&tokens), Ok(()));
+    assert_eq!(station::judge(&tokens, &[]), Ok(()));
     tokens
 }
 

@@ -19,7 +19,7 @@ fn answers(stream: &[u8]) -> impl PartialEq + std::fmt::Debug {
     let strings: Vec<Vec<u16>> = workbook.strings().collect();
     let mut units = [0; 16];
     let fetched = fetch(stream, 1, &mut units);
-    let judged = [&[0x1E, 0x01, 0x00][..], &[0x1E, 0x01]].map(judge);
+    let judged = [&[0x1E, 0x01, 0x00][..], &[0x1E, 0x01]].map(|tokens| judge(tokens, &[]));
     let mut copy = stream.to_vec();
     let corrected = correct(&mut copy, 0, 0, 1, NewValue::Number(2.5));
     (

@@ -82,7 +82,9 @@ fn main() {
     for seed in 0..seeds {
         let mut stream = streams::stream(seed);
         tally.ask(seed, &mut stream, &mut buffer);
-        tally.judge.add(&reader::judge(&streams::formula(seed)));
+        let formula = streams::formula(seed);
+        let answer = reader::judge(&formula.tokens, &formula.trailing);
+        tally.judge.add(&answer);
     }
     // The greatest length is met on purpose: nothing shorter is refused for it.
     for seed in 0..6 {

@@ -29,11 +29,11 @@ fn small_streams() {
     }
     println!("read them: {}", each(start.elapsed()));
     let start = Instant::now();
-    let formulas: Vec<Vec<u8>> = (0..SEEDS).map(streams::formula).collect();
+    let formulas: Vec<streams::Formula> = (0..SEEDS).map(streams::formula).collect();
     println!("make {SEEDS} formulas: {}", each(start.elapsed()));
     let start = Instant::now();
     for formula in &formulas {
-        black_box(reader::judge(formula).is_ok());
+        black_box(reader::judge(&formula.tokens, &formula.trailing).is_ok());
     }
     println!("judge them: {}", each(start.elapsed()));
 }

@@ -260,11 +260,13 @@ fn cell_body(rng: &mut Rng, body: &mut Vec<u8>, address: &mut Address, kind: u16
         kind::BOOLERR if rng.percent(50) => body.extend([rng.below(2) as u8, 0]),
         kind::BOOLERR => body.extend([rng.pick(&ERROR_CODES), 1]),
         kind::FORMULA => {
-            let tokens = crate::formula::small(rng);
+            let formula = crate::formula::small(rng);
             body.extend((rng.below(1 << 40) as f64 / 64.0).to_le_bytes());
             body.extend([0; 6]);
-            body.extend((tokens.len() as u16).to_le_bytes());
-            body.extend(tokens);
+            body.extend((formula.tokens.len() as u16).to_le_bytes());
+            body.extend(formula.tokens);
+            body.extend(formula.trailing);
+            body.truncate(LONGEST_BODY);
         }
         _ => {}
     }

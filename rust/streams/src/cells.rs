@@ -1,9 +1,13 @@
 //! The eight cell records, valid ones.
 
 use crate::contents::{CellContents, Content};
-use crate::formula;
+use crate::formula::{self, Formula};
 use crate::record::{kind, Record, ERROR_CODES};
 use crate::rng::Rng;
+use crate::trailing;
+
+/// How much a formula record has after its tokens at most.
+const LONGEST_TRAILING: usize = 600;
 
 /// Where a sheet's cells stand.
 #[derive(Clone, Copy, Debug)]
@@ -182,16 +186,21 @@ impl CellMaker {
     fn formula(&mut self, rng: &mut Rng) -> Record {
         let (address, format, mut body) = self.start(rng);
         let result = formula_result(rng);
-        let tokens = tokens(rng);
+        let Formula {
+            tokens,
+            mut trailing,
+            ..
+        } = listed_formula(rng);
+        // Data of many elements is cut, so that no record gets large.
+        trailing.truncate(LONGEST_TRAILING);
         body.extend(result);
         rng.append(&mut body, 6);
         body.extend((tokens.len() as u16).to_le_bytes());
         body.extend(&tokens);
-        if rng.percent(20) {
-            let after = rng.mostly_small(1, 40);
-            rng.append(&mut body, after);
-        }
-        self.keep(address, format, || Content::Formula(result, tokens));
+        body.extend(&trailing);
+        self.keep(address, format, || {
+            Content::Formula(result, tokens, trailing)
+        });
         Record::new(kind::FORMULA, body)
     }
 }
@@ -268,15 +277,22 @@ fn formula_result(rng: &mut Rng) -> [u8; 8] {
     result
 }
 
-/// A record's tokens, which no check judges.
-fn tokens(rng: &mut Rng) -> Vec<u8> {
-    match rng.below(20) {
+/// What a record has of a formula: right or not, as no check judges it.
+fn listed_formula(rng: &mut Rng) -> Formula {
+    let mut formula = match rng.below(20) {
         0..=11 => formula::small(rng),
         12..=15 => {
             let size = rng.mostly_small(1, 60);
-            rng.bytes(size)
+            Formula {
+                tokens: rng.bytes(size),
+                ..Formula::default()
+            }
         }
         16 => formula::any(rng),
-        _ => Vec::new(),
+        _ => Formula::default(),
+    };
+    if rng.percent(15) {
+        trailing::damage(rng, &mut formula);
     }
+    formula
 }

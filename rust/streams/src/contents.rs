@@ -50,6 +50,6 @@ pub enum Content {
     Truth(u8),
     /// An error code.
     Error(u8),
-    /// The eight bytes of a stored result, and the tokens.
-    Formula([u8; 8], Vec<u8>),
+    /// The eight bytes of a stored result, the tokens, and the bytes after them.
+    Formula([u8; 8], Vec<u8>, Vec<u8>),
 }

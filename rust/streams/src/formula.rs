@@ -2,10 +2,39 @@
 
 use crate::record::ERROR_CODES;
 use crate::rng::Rng;
+use crate::trailing;
 use std::sync::OnceLock;
 
 const LONGEST_FORMULA: usize = 1_800;
 const MEMORY_DEPTHS: usize = 8;
+
+/// A formula: its tokens and the bytes after them.
+#[derive(Clone, Debug, Default, PartialEq, Eq)]
+pub struct Formula {
+    /// The tokens.
+    pub tokens: Vec<u8>,
+    /// The bytes after the tokens.
+    pub trailing: Vec<u8>,
+    /// Which of the bytes after the tokens are judged, as they were made.
+    pub(crate) judged: Vec<usize>,
+}
+
+impl Formula {
+    fn of_tokens(tokens: Vec<u8>) -> Self {
+        Formula {
+            tokens,
+            ..Formula::default()
+        }
+    }
+
+    /// Appends what an inner formula has after its tokens.
+    fn append_trailing(&mut self, inner: &Formula) {
+        let at = self.trailing.len();
+        self.trailing.extend(&inner.trailing);
+        self.judged
+            .extend(inner.judged.iter().map(|place| at + place));
+    }
+}
 
 /// The functions by whether their number of arguments is fixed.
 struct Functions {
@@ -36,25 +65,25 @@ fn functions() -> &'static Functions {
 }
 
 /// A formula of any sort: valid, damaged, or thrown together.
-pub(crate) fn any(rng: &mut Rng) -> Vec<u8> {
+pub(crate) fn any(rng: &mut Rng) -> Formula {
     match rng.below(100) {
         0..=49 => valid(rng),
         50..=87 => damaged(rng),
         88..=97 => thrown_together(rng),
         _ => {
             let size = rng.mostly_small(0, 60);
-            rng.bytes(size)
+            Formula::of_tokens(rng.bytes(size))
         }
     }
 }
 
 /// A short valid formula.
-pub(crate) fn small(rng: &mut Rng) -> Vec<u8> {
+pub(crate) fn small(rng: &mut Rng) -> Formula {
     expression(rng, 4)
 }
 
 /// A valid formula.
-pub(crate) fn valid(rng: &mut Rng) -> Vec<u8> {
+pub(crate) fn valid(rng: &mut Rng) -> Formula {
     match rng.below(100) {
         0..=1 => alone(rng),
         2..=4 => padded(rng),
@@ -71,45 +100,46 @@ pub(crate) fn valid(rng: &mut Rng) -> Vec<u8> {
 }
 
 /// A token that must be the whole formula.
-fn alone(rng: &mut Rng) -> Vec<u8> {
+fn alone(rng: &mut Rng) -> Formula {
     let mut tokens = vec![rng.pick(&[0x01, 0x02])];
     rng.append(&mut tokens, 4);
-    tokens
+    Formula::of_tokens(tokens)
 }
 
 /// A formula made as long as may be, or nearly.
-fn padded(rng: &mut Rng) -> Vec<u8> {
+fn padded(rng: &mut Rng) -> Formula {
     let length = rng.between(LONGEST_FORMULA - 5, LONGEST_FORMULA);
-    let mut tokens = expression(rng, 20);
+    let mut formula = expression(rng, 20);
+    let tokens = &mut formula.tokens;
     while tokens.len() < length {
         if tokens.len() + 4 <= length && rng.percent(50) {
-            attribute(rng, &mut tokens);
+            attribute(rng, tokens);
         } else {
             tokens.push(rng.pick(&[0x12, 0x13, 0x14, 0x15]));
         }
     }
-    tokens
+    formula
 }
 
 /// A formula inside so many memory tokens.
-fn wrapped(rng: &mut Rng, inner: Vec<u8>, depth: usize) -> Vec<u8> {
-    let mut tokens = inner;
+fn wrapped(rng: &mut Rng, inner: Formula, depth: usize) -> Formula {
+    let mut formula = inner;
     for _ in 0..depth {
-        let mut outer = Vec::with_capacity(tokens.len() + 8);
-        memory(rng, &mut outer, &tokens);
-        tokens = outer;
+        let mut outer = Formula::default();
+        memory(rng, &mut outer, &formula);
+        formula = outer;
     }
-    tokens
+    formula
 }
 
-fn expression(rng: &mut Rng, nodes: usize) -> Vec<u8> {
+fn expression(rng: &mut Rng, nodes: usize) -> Formula {
     let mut maker = Maker { nodes, depth: 0 };
-    let mut tokens = Vec::with_capacity(nodes * 8);
-    maker.expression(rng, &mut tokens);
-    if tokens.len() > LONGEST_FORMULA {
+    let mut formula = Formula::of_tokens(Vec::with_capacity(nodes * 8));
+    maker.expression(rng, &mut formula);
+    if formula.tokens.len() > LONGEST_FORMULA {
         return leaf(rng);
     }
-    tokens
+    formula
 }
 
 /// Makes tokens that leave one operand more than before.
@@ -121,77 +151,81 @@ struct Maker {
 }
 
 impl Maker {
-    fn expression(&mut self, rng: &mut Rng, tokens: &mut Vec<u8>) {
+    fn expression(&mut self, rng: &mut Rng, formula: &mut Formula) {
         if rng.percent(6) {
-            attribute_of(rng, tokens, &[0x01, 0x02, 0x04, 0x08, 0x40, 0x41]);
+            attribute_of(
+                rng,
+                &mut formula.tokens,
+                &[0x01, 0x02, 0x04, 0x08, 0x40, 0x41],
+            );
         }
         if self.nodes == 0 {
-            return append_leaf(rng, tokens);
+            return append_leaf(rng, formula);
         }
         self.nodes -= 1;
         match rng.below(20) {
-            0..=2 => append_leaf(rng, tokens),
-            3..=5 => self.unary(rng, tokens),
-            6..=11 => self.binary(rng, tokens),
-            12..=14 => self.fixed_function(rng, tokens),
-            15..=17 => self.variable_function(rng, tokens),
-            _ => self.memory(rng, tokens),
+            0..=2 => append_leaf(rng, formula),
+            3..=5 => self.unary(rng, formula),
+            6..=11 => self.binary(rng, formula),
+            12..=14 => self.fixed_function(rng, formula),
+            15..=17 => self.variable_function(rng, formula),
+            _ => self.memory(rng, formula),
         }
     }
 
-    fn unary(&mut self, rng: &mut Rng, tokens: &mut Vec<u8>) {
-        self.expression(rng, tokens);
+    fn unary(&mut self, rng: &mut Rng, formula: &mut Formula) {
+        self.expression(rng, formula);
         if rng.percent(20) {
-            attribute_of(rng, tokens, &[0x10]);
+            attribute_of(rng, &mut formula.tokens, &[0x10]);
         } else {
-            tokens.push(rng.between(0x12, 0x15) as u8);
+            formula.tokens.push(rng.between(0x12, 0x15) as u8);
         }
     }
 
-    fn binary(&mut self, rng: &mut Rng, tokens: &mut Vec<u8>) {
-        self.expression(rng, tokens);
-        self.expression(rng, tokens);
-        tokens.push(rng.between(0x03, 0x11) as u8);
+    fn binary(&mut self, rng: &mut Rng, formula: &mut Formula) {
+        self.expression(rng, formula);
+        self.expression(rng, formula);
+        formula.tokens.push(rng.between(0x03, 0x11) as u8);
     }
 
     /// A function of a fixed count, as some writers also put it down: with its
     /// count before the index.
-    fn fixed_function(&mut self, rng: &mut Rng, tokens: &mut Vec<u8>) {
+    fn fixed_function(&mut self, rng: &mut Rng, formula: &mut Formula) {
         let (index, count) = rng.pick(&functions().fixed);
-        self.arguments(rng, tokens, count);
+        self.arguments(rng, formula, count);
         if rng.percent(30) {
-            return append_counted(rng, tokens, index, count);
+            return append_counted(rng, &mut formula.tokens, index, count);
         }
-        tokens.push(classed(rng, 0x21));
-        tokens.extend(index.to_le_bytes());
+        formula.tokens.push(classed(rng, 0x21));
+        formula.tokens.extend(index.to_le_bytes());
     }
 
-    fn variable_function(&mut self, rng: &mut Rng, tokens: &mut Vec<u8>) {
+    fn variable_function(&mut self, rng: &mut Rng, formula: &mut Formula) {
         let (index, least, greatest) = rng.pick(&functions().variable);
         let count = match rng.below(8) {
             0 => greatest,
             1 => least,
             _ => rng.mostly_small(least, greatest),
         };
-        self.arguments(rng, tokens, count);
-        append_counted(rng, tokens, index, count);
+        self.arguments(rng, formula, count);
+        append_counted(rng, &mut formula.tokens, index, count);
     }
 
-    fn arguments(&mut self, rng: &mut Rng, tokens: &mut Vec<u8>, count: usize) {
+    fn arguments(&mut self, rng: &mut Rng, formula: &mut Formula, count: usize) {
         for _ in 0..count {
-            self.expression(rng, tokens);
+            self.expression(rng, formula);
         }
     }
 
-    fn memory(&mut self, rng: &mut Rng, tokens: &mut Vec<u8>) {
+    fn memory(&mut self, rng: &mut Rng, formula: &mut Formula) {
         if self.depth == MEMORY_DEPTHS {
-            return append_leaf(rng, tokens);
+            return append_leaf(rng, formula);
         }
         self.depth += 1;
-        let mut inner = Vec::new();
+        let mut inner = Formula::default();
         self.expression(rng, &mut inner);
         self.depth -= 1;
-        memory(rng, tokens, &inner);
+        memory(rng, formula, &inner);
     }
 }
 
@@ -203,15 +237,21 @@ fn append_counted(rng: &mut Rng, tokens: &mut Vec<u8>, index: u16, count: usize)
     tokens.extend(index.to_le_bytes());
 }
 
-/// Appends a memory token with its inner formula.
-fn memory(rng: &mut Rng, tokens: &mut Vec<u8>, inner: &[u8]) {
-    let first = rng.pick(&[0x27, 0x28, 0x29]);
-    tokens.push(classed(rng, first));
+/// Appends a memory token with its inner formula. Its areas come before the data
+/// of the tokens inside.
+fn memory(rng: &mut Rng, formula: &mut Formula, inner: &Formula) {
+    let first = rng.pick(&[0x26, 0x27, 0x28, 0x29]);
+    formula.tokens.push(classed(rng, first));
     if first != 0x29 {
-        rng.append(tokens, 4);
+        rng.append(&mut formula.tokens, 4);
     }
-    tokens.extend((inner.len() as u16).to_le_bytes());
-    tokens.extend(inner);
+    let length = inner.tokens.len() as u16;
+    formula.tokens.extend(length.to_le_bytes());
+    formula.tokens.extend(&inner.tokens);
+    if first == 0x26 {
+        trailing::append_areas(rng, formula);
+    }
+    formula.append_trailing(inner);
 }
 
 /// A token byte in one of the three classes.
@@ -235,13 +275,14 @@ fn attribute_of(rng: &mut Rng, tokens: &mut Vec<u8>, kinds: &[u8]) {
     }
 }
 
-const OPERANDS: [(u8, usize); 18] = [
+const OPERANDS: [(u8, usize); 19] = [
     (0x16, 0),
     (0x17, 0),
     (0x1C, 0),
     (0x1D, 0),
     (0x1E, 2),
     (0x1F, 8),
+    (0x20, 7),
     (0x23, 4),
     (0x24, 4),
     (0x25, 8),
@@ -256,15 +297,16 @@ const OPERANDS: [(u8, usize); 18] = [
     (0x3D, 10),
 ];
 
-fn leaf(rng: &mut Rng) -> Vec<u8> {
-    let mut tokens = Vec::new();
-    append_leaf(rng, &mut tokens);
-    tokens
+fn leaf(rng: &mut Rng) -> Formula {
+    let mut formula = Formula::default();
+    append_leaf(rng, &mut formula);
+    formula
 }
 
 /// Appends a token that gives one operand.
-fn append_leaf(rng: &mut Rng, tokens: &mut Vec<u8>) {
+fn append_leaf(rng: &mut Rng, formula: &mut Formula) {
     let (first, size) = rng.pick(&OPERANDS);
+    let tokens = &mut formula.tokens;
     match first {
         0x17 => append_text(rng, tokens),
         0x1C => tokens.extend([first, rng.pick(&ERROR_CODES)]),
@@ -280,6 +322,9 @@ fn append_leaf(rng: &mut Rng, tokens: &mut Vec<u8>) {
             tokens.push(class);
             rng.append(tokens, size);
         }
+    }
+    if first == 0x20 {
+        trailing::append_array(rng, formula);
     }
 }
 
@@ -302,21 +347,24 @@ fn append_reference(rng: &mut Rng, tokens: &mut Vec<u8>, first: u8, size: usize,
 }
 
 /// Whole tokens one after the other, with no care for operands or functions.
-fn thrown_together(rng: &mut Rng) -> Vec<u8> {
-    let mut tokens = Vec::new();
+fn thrown_together(rng: &mut Rng) -> Formula {
+    let mut formula = Formula::default();
     for _ in 0..rng.mostly_small(1, 12) {
         match rng.below(8) {
-            0 => tokens.push(rng.between(0x03, 0x15) as u8),
-            1 => attribute(rng, &mut tokens),
-            2 => append_function(rng, &mut tokens),
+            0 => formula.tokens.push(rng.between(0x03, 0x15) as u8),
+            1 => attribute(rng, &mut formula.tokens),
+            2 => append_function(rng, &mut formula.tokens),
             3 => {
-                let inner = expression(rng, 3);
-                memory(rng, &mut tokens, &inner);
+                let inner = match rng.below(4) {
+                    0 => Formula::default(),
+                    _ => expression(rng, 3),
+                };
+                memory(rng, &mut formula, &inner);
             }
-            _ => append_leaf(rng, &mut tokens),
+            _ => append_leaf(rng, &mut formula),
         }
     }
-    tokens
+    formula
 }
 
 /// A function token with any index and count, near the table or in it.
@@ -345,29 +393,34 @@ fn append_function(rng: &mut Rng, tokens: &mut Vec<u8>) {
 }
 
 /// A valid formula with one to three small damages.
-fn damaged(rng: &mut Rng) -> Vec<u8> {
-    let mut tokens = valid(rng);
+fn damaged(rng: &mut Rng) -> Formula {
+    let mut formula = valid(rng);
     for _ in 0..rng.pick(&[1, 1, 1, 2, 3]) {
-        damage(rng, &mut tokens);
+        if rng.percent(if formula.trailing.is_empty() { 10 } else { 50 }) {
+            trailing::damage(rng, &mut formula);
+        } else {
+            damage(rng, &mut formula);
+        }
     }
-    tokens
+    formula
 }
 
-fn damage(rng: &mut Rng, tokens: &mut Vec<u8>) {
+fn damage(rng: &mut Rng, formula: &mut Formula) {
+    let tokens = &mut formula.tokens;
     let place = rng.below(tokens.len().max(1));
     match rng.below(12) {
         0 => tokens.truncate(place),
         1 => drop(tokens.splice(place..place, [rng.byte()])),
         2 => tokens.insert(place, rng.between(0x01, 0x3F) as u8),
         3 if place < tokens.len() => drop(tokens.remove(place)),
-        4 => append_leaf(rng, tokens),
+        4 => append_leaf(rng, formula),
         5 => tokens.push(rng.between(0x03, 0x15) as u8),
         6 => append_function(rng, tokens),
         7 => {
             let depth = rng.between(1, 10);
-            let inner = std::mem::take(tokens);
-            if !inner.is_empty() {
-                *tokens = wrapped(rng, inner, depth);
+            let inner = std::mem::take(formula);
+            if !inner.tokens.is_empty() {
+                *formula = wrapped(rng, inner, depth);
             }
         }
         8 => tokens.resize(rng.pick(&[0, 1, 1_799, 1_800, 1_801, 2_000]), 0x12),

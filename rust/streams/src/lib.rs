@@ -16,10 +16,12 @@ mod questions;
 mod record;
 mod rng;
 mod table;
+mod trailing;
 mod workbook;
 
 pub use big::Big;
 pub use contents::{CellContents, Content, Contents, SheetContents};
+pub use formula::Formula;
 pub use questions::{Correction, Fetch, NewValue};
 
 use record::{bof, Book, Record, Tie};
@@ -65,13 +67,13 @@ pub fn damaged(seed: u64) -> Vec<u8> {
     damage::damaged(&mut rng, book)
 }
 
-/// Formula bytes of any sort.
-pub fn formula(seed: u64) -> Vec<u8> {
+/// A formula of any sort.
+pub fn formula(seed: u64) -> Formula {
     formula::any(&mut Rng::for_purpose(seed, 4))
 }
 
-/// Formula bytes that break no rule.
-pub fn valid_formula(seed: u64) -> Vec<u8> {
+/// A formula that breaks no rule.
+pub fn valid_formula(seed: u64) -> Formula {
     formula::valid(&mut Rng::for_purpose(seed, 5))
 }
 

@@ -13,7 +13,7 @@ fn value_of(content: &Content) -> Value {
         Content::Text(index) => Value::Text(index),
         Content::Truth(truth) => Value::Truth(truth),
         Content::Error(code) => Value::Error(code),
-        Content::Formula(field, _) => Value::Formula(match field {
+        Content::Formula(field, ..) => Value::Formula(match field {
             [0, .., 0xFF, 0xFF] => FormulaResult::Text,
             [1, _, truth, .., 0xFF, 0xFF] => FormulaResult::Truth(truth),
             [2, _, code, .., 0xFF, 0xFF] => FormulaResult::Error(code),
@@ -37,11 +37,12 @@ fn assert_same(stream: &[u8], reading: &Reading, contents: &Contents) {
             let address = (cell.row, cell.column, cell.format);
             assert_eq!(address, (made.row, made.column, made.format));
             assert_eq!(cell.value, value_of(&made.value));
-            let tokens = match &made.value {
-                Content::Formula(_, tokens) => &tokens[..],
-                _ => &[],
+            let (tokens, trailing) = match &made.value {
+                Content::Formula(_, tokens, trailing) => (&tokens[..], &trailing[..]),
+                _ => (&[][..], &[][..]),
             };
             assert_eq!(&stream[cell.tokens.clone()], tokens);
+            assert_eq!(&stream[cell.trailing.clone()], trailing);
         }
     }
 }
@@ -62,8 +63,9 @@ fn valid_streams_are_read_as_they_were_made() {
 #[test]
 fn valid_formulas_are_accepted() {
     for seed in 0..SEEDS {
-        let tokens = streams::valid_formula(seed);
-        assert_eq!(reader::judge(&tokens), Ok(()), "seed {seed}: {tokens:02X?}");
+        let formula = streams::valid_formula(seed);
+        let answer = reader::judge(&formula.tokens, &formula.trailing);
+        assert_eq!(answer, Ok(()), "seed {seed}: {formula:02X?}");
     }
 }
 
@@ -162,6 +164,7 @@ fn every_refusal_is_met() {
         let fetch = streams::fetch(seed, &stream);
         let mut buffer = vec![0; fetch.units];
         let ask = streams::correction(seed, &stream);
+        let formula = streams::formula(seed);
         let answers = [
             reader::list_cells(&stream, sheet, |_| ()),
             reader::fetch(&stream, fetch.index, &mut buffer).map(|_| ()),
@@ -172,7 +175,7 @@ fn every_refusal_is_met() {
                 ask.column,
                 asked(ask.value),
             ),
-            reader::judge(&streams::formula(seed)),
+            reader::judge(&formula.tokens, &formula.trailing),
         ];
         answers
             .into_iter()

@@ -12,23 +12,29 @@ use std::io::{self, BufRead, BufReader, Read, Write};
 pub const JUDGE: Command = Command {
     name: "judge",
     about: "judge the bytes of formulas",
-    usage: &["HEX...", "-"],
-    operands: Operands::Several("HEX"),
+    usage: &["TOKENS[+TRAILING]...", "-"],
+    operands: Operands::Several("TOKENS[+TRAILING]"),
     words: &[],
     options: &[],
     examples: &[
         ("vaigunthe judge 1E0100", "one formula, the number 1"),
+        (
+            "vaigunthe judge 6000000000000000+000000010000000000002940",
+            "an array constant of one number",
+        ),
         ("vaigunthe judge - < formulas.txt", "a formula in each line"),
     ],
     details: "\
-Each HEX is one formula, its token bytes in hex, two digits a byte; in quotes it
-may have spaces. With - there is a formula in each line of standard input; an
-empty line is an empty formula. A line of answer for each:
+Each word is one formula, its token bytes in hex, two digits a byte; in quotes it
+may have spaces. Array constants and cached areas have data in the bytes after
+all tokens: these follow a +. With - there is a formula in each line of standard
+input; an empty line is an empty formula. A line of answer for each:
   accepted
   refused N at O
 What a refusal means is said on standard error, once for each number.
 
-Where one HEX is no hex, none is answered. Lines are answered as they come; one
+Offsets in the bytes after the tokens are counted on from the tokens' end.
+Where one word is no hex, none is answered. Lines are answered as they come; one
 that is no hex ends that with status 2 and its number on standard error.
 ",
     run,
@@ -46,11 +52,17 @@ fn run(arguments: &Arguments, out: &mut Output) -> Result<Status, Failure> {
     }
 }
 
+/// A formula's tokens, and the bytes after them.
+struct Formula {
+    tokens: Vec<u8>,
+    trailing: Vec<u8>,
+}
+
 /// Answers nothing unless all the words are hex.
 fn judge_words(words: &[OsString], out: &mut Output) -> Result<Status, Failure> {
     let mut formulas = Vec::with_capacity(words.len());
     for (done, word) in words.iter().enumerate() {
-        let formula = bytes_of(word.as_encoded_bytes());
+        let formula = formula_in(word.as_encoded_bytes());
         let message = || Failure::usage(format!("formula {} is {NOT_HEX}", done + 1));
         formulas.push(formula.ok_or_else(message)?);
     }
@@ -89,11 +101,19 @@ fn judge_lines(source: impl Read, out: &mut Output) -> Result<Status, Failure> {
     Ok(judge.status)
 }
 
-fn formula_of(line: &[u8]) -> Result<Vec<u8>, &'static str> {
+fn formula_of(line: &[u8]) -> Result<Formula, &'static str> {
     if line.len() as u64 == LONGEST_LINE && !line.ends_with(b"\n") {
         return Err("too long");
     }
-    bytes_of(line).ok_or(NOT_HEX)
+    formula_in(line).ok_or(NOT_HEX)
+}
+
+fn formula_in(text: &[u8]) -> Option<Formula> {
+    let mut parts = text.splitn(2, |&byte| byte == b'+');
+    Some(Formula {
+        tokens: bytes_of(parts.next()?)?,
+        trailing: bytes_of(parts.next().unwrap_or_default())?,
+    })
 }
 
 /// The bytes that are written in hex, with or without space between them.
@@ -134,8 +154,8 @@ impl<'o> Judge<'o> {
         }
     }
 
-    fn answer(&mut self, formula: &[u8], called: impl Display) -> io::Result<()> {
-        match station::judge(formula) {
+    fn answer(&mut self, formula: &Formula, called: impl Display) -> io::Result<()> {
+        match station::judge(&formula.tokens, &formula.trailing) {
             Ok(()) => writeln!(self.out, "accepted"),
             Err(refusal) => {
                 self.status = Status::Refused;

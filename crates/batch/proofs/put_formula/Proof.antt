@@ -33,6 +33,8 @@ put-formula-spec =
     (λ c κs. search needs)
     -- add-put-one
     (λ c. search needs)
+    -- formula-sizes-requires
+    (λ c κs. search needs)
     -- put-one-requires
     (λ c κs. search needs)
     -- same-length

@@ -23,8 +23,6 @@ put-one-spec =
     (λ c κs. search needs)
     -- mul-put-four
     (λ c. search needs)
-    -- u16-as-u64-requires
-    (λ c κs. search needs)
     -- put-four-requires
     (λ c κs. search needs)
     -- same-length

@@ -1,4 +1,4 @@
-use Rattle.batch.proofs.Steps.{step-laws}
+use Rattle.batch.proofs.Steps.{size-laws, step-laws}
 use borrow.Author.Needs.{needs}
 use Rattle.batch.proofs.step_record.Statement.{statement}
 use Rattle.batch.proofs.step_record.Tie as tie
@@ -14,7 +14,7 @@ step-record-spec =
     -- sub-put-record
     (λ c. search needs)
     -- put-record-requires
-    (λ c κs. search needs)
+    (λ c κs. (search needs, search needs, search needs, search size-laws, search size-laws))
     -- step-past-requires-2
     (λ c κs. search needs)
     -- same-length

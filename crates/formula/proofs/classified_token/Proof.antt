@@ -43,6 +43,10 @@ classified-token-spec =
     (λ c κs. search needs)
     -- memory-requires-3
     (λ c κs. search needs)
+    -- operand-requires-9
+    (λ c κs. search needs)
+    -- memory-requires-4
+    (λ c κs. search needs)
     -- returns
     (λ c. search arms depth 24 fits 10000)
     -- returns-2
@@ -78,4 +82,8 @@ classified-token-spec =
     -- returns-17
     (λ c. search arms depth 24 fits 10000)
     -- returns-18
+    (λ c. search arms depth 24 fits 10000)
+    -- returns-19
+    (λ c. search arms depth 24 fits 10000)
+    -- returns-20
     (λ c. search arms depth 24 fits 10000))

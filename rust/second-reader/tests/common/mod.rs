@@ -1,7 +1,7 @@
 //! A small maker of streams, record by record.
 #![allow(dead_code)]
 
-use second_reader::{check, Refusal};
+use second_reader::{check, judge, Refusal};
 
 pub const FORMULA: u16 = 0x0006;
 pub const EOF: u16 = 0x000A;
@@ -194,6 +194,11 @@ pub fn refused_table(segments: &[&[u8]]) -> Option<(u8, usize)> {
 /// The counts and what follows them, as one body.
 pub fn sst(unique: u32, strings: &[u8]) -> Vec<u8> {
     [&counts(unique)[..], strings].concat()
+}
+
+/// The answer to tokens with nothing after them.
+pub fn judge_tokens(tokens: &[u8]) -> Result<(), Refusal> {
+    judge(tokens, &[])
 }
 
 #[track_caller]

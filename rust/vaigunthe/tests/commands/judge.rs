@@ -6,6 +6,7 @@ use std::process::{Command, Stdio};
 use std::sync::mpsc;
 use std::thread;
 use std::time::Duration;
+use streams::Formula;
 
 /// The examples that document 01 settles, with their answers.
 const SETTLED: [(&str, &str); 10] = [
@@ -75,9 +76,11 @@ fn made_formulas() {
     let mut lines = String::new();
     let mut answers = String::new();
     for seed in 0..3_000 {
-        let formula = streams::formula(seed);
-        lines += &format!("{}\n", hex(&formula));
-        answers += &match second_reader::judge(&formula) {
+        let Formula {
+            tokens, trailing, ..
+        } = streams::formula(seed);
+        lines += &format!("{}+{}\n", hex(&tokens), hex(&trailing));
+        answers += &match second_reader::judge(&tokens, &trailing) {
             Ok(()) => "accepted\n".to_string(),
             Err(refusal) => format!("{refusal}\n"),
         };
@@ -95,8 +98,20 @@ fn ways_to_write_hex() {
     let lines = b"1E 01 00\r\n  1e0100\n1E01 00";
     run_with(&["judge", "-"], lines).says(0, &"accepted\n".repeat(3));
     run_with(&["judge", "-"], b"").says(0, "");
+    run(&["judge", "1E0100+", "1E 01 00 + "]).says(0, &"accepted\n".repeat(2));
     let ran = run_with(&["judge", "-"], b"\n\n");
     answers_all(&ran, "line", &"refused 13 at 0\n".repeat(2));
+}
+
+/// An array constant of one number, whole, cut, and with a byte too many.
+#[test]
+fn bytes_after_the_tokens() {
+    let array = "6000000000000000";
+    let number = "000000010000000000002940";
+    run(&["judge", &format!("{array}+{number}")]).says(0, "accepted\n");
+    run(&["judge", array]).refuses("refused 13 at 8");
+    run(&["judge", &format!("{array}+{}", &number[2..])]).refuses("refused 13 at 8");
+    run(&["judge", &format!("{array}+{number}00")]).refuses("refused 13 at 20");
 }
 
 #[test]
@@ -108,10 +123,20 @@ fn a_formula_far_too_long() {
 /// All words are there before the first is answered, so none is.
 #[test]
 fn a_word_that_is_no_hex() {
-    for word in ["1E010", "1E 0 100", "G0", "0x1E", "1E-0", "é0", "-"] {
+    for word in [
+        "1E010",
+        "1E 0 100",
+        "G0",
+        "0x1E",
+        "1E-0",
+        "é0",
+        "-",
+        "1E0100+0",
+        "1E0100+00+00",
+    ] {
         run(&["judge", "1E0100", word]).fails("formula 2");
     }
-    run(&["judge"]).fails("HEX");
+    run(&["judge"]).fails("TOKENS");
 }
 
 /// The lines before it have their answers already.

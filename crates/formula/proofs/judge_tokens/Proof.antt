@@ -1,13 +1,13 @@
 use Rattle.walk.proofs.Choice.{picks}
-use Rattle.formula.specs.Judge.{judgeOf}
+use Rattle.formula.specs.Judge.{tokensJudged}
 use Rattle.formula.proofs.Formula.{judged}
 use borrow.Author.Needs.{needs}
-use Rattle.formula.proofs.judge.Statement.{statement}
-use Rattle.formula.proofs.judge.Tie as tie
+use Rattle.formula.proofs.judge_tokens.Statement.{statement}
+use Rattle.formula.proofs.judge_tokens.Tie as tie
 
-pub judge-spec : {M : Type 1} → statement M
-unfolding judgeOf
-judge-spec =
+pub judge-tokens-spec : {M : Type 1} → statement M
+unfolding tokensJudged
+judge-tokens-spec =
     tie.close
     (tie.spec
     -- returns

@@ -1,0 +1,80 @@
+-- From what was seen of all tokens to the judgement. Assumes nothing.
+use Prim.Native.Nat.{ℕ, _+_, _^_, _≤_, _<_}
+use mathlib.Core.Path.{_≡_, refl, sym, _∙_, ap}
+use mathlib.Core.Bool.{Bool, true, false}
+use mathlib.Core.List.{List, [], _∷_}
+use native.Mathlib.Omega.{arith}
+use native.Mathlib.Nat.{le-refl}
+use borrow.Author.Tests.{ltb-false}
+use mir.Syntax.{w64}
+use mir.Val.{Fits}
+use lib.Dec.{ltb, eqb}
+use lib.ListN.{length, drop}
+use Rattle.walk.specs.Choice.{pick}
+use Rattle.walk.proofs.Choice.{never, pick-lt, pick-nlt, picks, refl′}
+use Rattle.le.specs.Bytes.{byteAt}
+use Rattle.formula.specs.declared.Judgement.{Judgement}
+use Rattle.formula.specs.declared.Judgement.the-variants.{Accepted, Refused}
+use Rattle.formula.specs.Judge.{ifAccepted, formulaOf, tokensJudged}
+use Rattle.trailing.specs.declared.Data.{Data}
+use Rattle.trailing.specs.declared.Data.the-variants.{Takes, Bad}
+use Rattle.judge.specs.declared.Seen.{Seen}
+use Rattle.judge.specs.declared.Seen.the-variants.{Used, Spoilt}
+use Rattle.judge.specs.Judge.{Place, placesOf, dataOf, onData, trailingOf, judgeOf}
+use Rattle.judge.specs.Parts.{usedOf, seenAfter, seenOf, verdictOf, Right}
+
+-- ---- the walk sees what the definition says
+module _ (d : List ℕ) (end : ℕ) where
+  -- the judgement of what is left, after what was seen
+  abbrev leftOf : List Place → Seen → Judgement
+  leftOf ps (Used at) = trailingOf d end ps at
+  leftOf ps (Spoilt at) = Refused 13 (end + at)
+
+  none-left : (s : Seen) → leftOf [] s ≡ verdictOf d end s
+  unfolding trailingOf
+  none-left (Used at) = refl
+  none-left (Spoilt at) = refl
+
+  one-more : (p : Place) (ps : List Place) (s : Seen) → leftOf (p ∷ ps) s ≡ leftOf ps (seenAfter (p .bytes) d s)
+  unfolding trailingOf usedOf
+  one-more p ps (Used at) = go (dataOf (byteAt (p .bytes) 0) (drop at d))
+    where
+      go : (x : Data) → onData (Refused 13 (end + at)) (λ size. trailingOf d end ps (at + size)) x ≡ leftOf ps (onData (Spoilt at) (λ size. Used (at + size)) x)
+      go (Takes size) = refl
+      go Bad = refl
+  one-more p ps (Spoilt at) = refl
+
+  all-left : (ps : List Place) (s : Seen) → leftOf ps s ≡ verdictOf d end (seenOf d ps s)
+  unfolding seenOf
+  all-left [] s = none-left s
+  all-left (p ∷ ps) s = one-more p ps s ∙ all-left ps (seenAfter (p .bytes) d s)
+
+-- ---- the answer on the whole
+module _ (b d : List ℕ) (first : Judgement) (e : first ≡ tokensJudged b) where
+  pub judged-refused : (number offset : ℕ) → first ≡ Refused number offset → Refused number offset ≡ judgeOf b d
+  unfolding judgeOf
+  judged-refused number offset f = rw (← e, f) refl
+
+  module _ (f : first ≡ Accepted) where
+    pub short : 0 + length b < 2 ^ 32
+    unfolding tokensJudged pick
+    short = go (eqb (length b) 0) (ltb 1800 (length b)) refl (sym e ∙ f)
+      where
+        go : (p q : Bool) → ltb 1800 (length b) ≡ q → pick p (Refused 13 0) (pick q (Refused 13 0) (formulaOf (length b) b 0 0 0)) ≡ Accepted → 0 + length b < 2 ^ 32
+        go true q g h = never (cc)
+        go false true g h = never (cc)
+        go false false g h = omega (arith, ltb-false 1800 (length b) g)
+
+    pub end-fits : length b < 2 ^ 32
+    end-fits = omega (arith, short)
+
+    pub judged : (s : Seen) (r : Judgement) → Right b 0 0 d (Used 0) s → r ≡ verdictOf d (length b) s → r ≡ judgeOf b d
+    unfolding judgeOf Right
+    judged s r h i = rw (← e, f) (i ∙ ap (verdictOf d (length b)) (h (length b) (le-refl (length b))) ∙ sym (all-left d (length b) (placesOf (length b) b 0 0) (Used 0)))
+
+pub ruleset on-answer = (judged-refused, short, end-fits, judged)
+
+-- ---- the verdict
+module _ (d : List ℕ) (end : ℕ) (s : Seen) where
+  pub verdict-by : (x : Seen) (r : Judgement) → s ≡ x → r ≡ verdictOf d end x → r ≡ verdictOf d end s
+  verdict-by x r e f = rw e f

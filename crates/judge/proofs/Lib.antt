@@ -1,0 +1,3 @@
+pub mod OneToken
+pub mod Visits
+pub mod Judged
