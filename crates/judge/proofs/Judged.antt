@@ -18,28 +18,42 @@ use Rattle.formula.specs.declared.Judgement.the-variants.{Accepted, Refused}
 use Rattle.formula.specs.Judge.{ifAccepted, formulaOf, tokensJudged}
 use Rattle.trailing.specs.declared.Data.{Data}
 use Rattle.trailing.specs.declared.Data.the-variants.{Takes, Bad}
+use Rattle.jumps.specs.Jumps.{landsOf}
 use Rattle.judge.specs.declared.Seen.{Seen}
-use Rattle.judge.specs.declared.Seen.the-variants.{Used, Spoilt}
-use Rattle.judge.specs.Judge.{Place, placesOf, dataOf, onData, trailingOf, judgeOf}
-use Rattle.judge.specs.Parts.{usedOf, seenAfter, seenOf, verdictOf, Right}
+use Rattle.judge.specs.declared.Seen.the-variants.{Used, Astray, Spoilt}
+use Rattle.judge.specs.Judge.{Place, placesOf, dataOf, onData, trailingOf, jumpsOf, afterTokens, judgeOf}
+use Rattle.judge.specs.Parts.{usedOf, astrayOf, seenAfter, seenOf, unlessLeft, verdictOf, Right}
 
--- ---- the walk sees what the definition says
+-- ---- the walk sees what the trailing data and the jumps say one after the other
 module _ (d : List ℕ) (end : ℕ) where
   -- the judgement of what is left, after what was seen
   abbrev leftOf : List Place → Seen → Judgement
-  leftOf ps (Used at) = trailingOf d end ps at
+  leftOf ps (Used at) = ifAccepted (trailingOf d end ps at) (jumpsOf ps)
+  leftOf ps (Astray at jump) = ifAccepted (trailingOf d end ps at) (Refused 13 jump)
   leftOf ps (Spoilt at) = Refused 13 (end + at)
 
+  used-up : (at : ℕ) (x : Judgement) (b : Bool) → ifAccepted (pick b (Refused 13 (end + at)) Accepted) x ≡ pick b (Refused 13 (end + at)) x
+  unfolding pick
+  used-up at x true = refl
+  used-up at x false = refl
+
   none-left : (s : Seen) → leftOf [] s ≡ verdictOf d end s
-  unfolding trailingOf
-  none-left (Used at) = refl
+  unfolding trailingOf jumpsOf unlessLeft pick
+  none-left (Used at) = used-up at Accepted (ltb at (length d))
+  none-left (Astray at jump) = used-up at (Refused 13 jump) (ltb at (length d))
   none-left (Spoilt at) = refl
 
-  one-more : (p : Place) (ps : List Place) (s : Seen) → leftOf (p ∷ ps) s ≡ leftOf ps (seenAfter (p .bytes) d s)
-  unfolding trailingOf usedOf
-  one-more p ps (Used at) = go (dataOf (byteAt (p .bytes) 0) (drop at d))
+  one-more : (p : Place) (ps : List Place) (s : Seen) → leftOf (p ∷ ps) s ≡ leftOf ps (seenAfter (p .bytes) (p .offset) (p .depth) d s)
+  unfolding trailingOf jumpsOf usedOf astrayOf pick
+  one-more p ps (Used at) = go (dataOf (byteAt (p .bytes) 0) (drop at d)) (landsOf (p .bytes) (p .offset) (p .depth))
     where
-      go : (x : Data) → onData (Refused 13 (end + at)) (λ size. trailingOf d end ps (at + size)) x ≡ leftOf ps (onData (Spoilt at) (λ size. Used (at + size)) x)
+      go : (x : Data) (l : Bool) → ifAccepted (onData (Refused 13 (end + at)) (λ size. trailingOf d end ps (at + size)) x) (pick l (jumpsOf ps) (Refused 13 (p .offset))) ≡ leftOf ps (onData (Spoilt at) (λ size. pick l (Used (at + size)) (Astray (at + size) (p .offset))) x)
+      go (Takes size) true = refl
+      go (Takes size) false = refl
+      go Bad l = refl
+  one-more p ps (Astray at jump) = go (dataOf (byteAt (p .bytes) 0) (drop at d))
+    where
+      go : (x : Data) → ifAccepted (onData (Refused 13 (end + at)) (λ size. trailingOf d end ps (at + size)) x) (Refused 13 jump) ≡ leftOf ps (onData (Spoilt at) (λ size. Astray (at + size) jump) x)
       go (Takes size) = refl
       go Bad = refl
   one-more p ps (Spoilt at) = refl
@@ -47,7 +61,11 @@ module _ (d : List ℕ) (end : ℕ) where
   all-left : (ps : List Place) (s : Seen) → leftOf ps s ≡ verdictOf d end (seenOf d ps s)
   unfolding seenOf
   all-left [] s = none-left s
-  all-left (p ∷ ps) s = one-more p ps s ∙ all-left ps (seenAfter (p .bytes) d s)
+  all-left (p ∷ ps) s = one-more p ps s ∙ all-left ps (seenAfter (p .bytes) (p .offset) (p .depth) d s)
+
+  pub as-seen : (ps : List Place) → afterTokens d end ps ≡ verdictOf d end (seenOf d ps (Used 0))
+  unfolding afterTokens
+  as-seen ps = all-left ps (Used 0)
 
 -- ---- the answer on the whole
 module _ (b d : List ℕ) (first : Judgement) (e : first ≡ tokensJudged b) where
@@ -70,7 +88,7 @@ module _ (b d : List ℕ) (first : Judgement) (e : first ≡ tokensJudged b) whe
 
     pub judged : (s : Seen) (r : Judgement) → Right b 0 0 d (Used 0) s → r ≡ verdictOf d (length b) s → r ≡ judgeOf b d
     unfolding judgeOf Right
-    judged s r h i = rw (← e, f) (i ∙ ap (verdictOf d (length b)) (h (length b) (le-refl (length b))) ∙ sym (all-left d (length b) (placesOf (length b) b 0 0) (Used 0)))
+    judged s r h i = rw (← e, f) (i ∙ ap (verdictOf d (length b)) (h (length b) (le-refl (length b))) ∙ sym (as-seen d (length b) (placesOf (length b) b 0 0)))
 
 pub ruleset on-answer = (judged-refused, short, end-fits, judged)
 

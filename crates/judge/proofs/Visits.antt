@@ -13,6 +13,7 @@ use Rattle.formula.specs.declared.Token.{Token}
 use Rattle.formula.specs.declared.Token.the-variants.{Plain, Memory, Invalid}
 use Rattle.formula.specs.Tokens.{baseOf, tokenOf}
 use Rattle.formula.proofs.Within.{plain-facts, memory-facts, inner-shorter, inner-laws}
+use Rattle.jumps.specs.Jumps.{sizeOf}
 use Rattle.judge.specs.declared.Seen.{Seen}
 use Rattle.judge.specs.declared.Visit.{Visit}
 use Rattle.judge.specs.declared.Visit.the-variants.{Next, End}
@@ -22,7 +23,7 @@ use Rattle.judge.specs.Parts.{seenAfter, seenOf, SeenWithin, Right, onVi
 seen-append : (d : List ℕ) (ps qs : List Place) (s : Seen) → seenOf d qs (seenOf d ps s) ≡ seenOf d (ps ++ qs) s
 unfolding seenOf
 seen-append d [] qs s = refl
-seen-append d (p ∷ ps) qs s = seen-append d ps qs (seenAfter (p .bytes) d s)
+seen-append d (p ∷ ps) qs s = seen-append d ps qs (seenAfter (p .bytes) (p .offset) (p .depth) d s)
 
 -- ---- the token that t starts with
 abbrev inner : List ℕ → ℕ → ℕ → ℕ → ℕ → ℕ → List Place
@@ -49,8 +50,14 @@ module _ (t : List ℕ) (offset depth : ℕ) (d : List ℕ) (s : Seen) (x : Toke
   invalid-within number f h = h
 
   module _ (some : 0 < length t) where
+    pub plain-some : (size takes gives : ℕ) → x ≡ Plain size takes gives → 0 < sizeOf (tokenOf t offset depth)
+    plain-some size takes gives f = rw (sym e ∙ f) (omega (arith, plain-facts t offset depth some x e size takes gives f))
+
+    pub memory-some : (size head : ℕ) → x ≡ Memory size head → 0 < sizeOf (tokenOf t offset depth)
+    memory-some size head f = rw (sym e ∙ f) (omega (arith, memory-facts t offset depth some x e size head f))
+
     -- n is what is seen after the token itself
-    module _ (n : Seen) (g : n ≡ seenAfter t d s) where
+    module _ (n : Seen) (g : n ≡ seenAfter t offset depth d s) where
       pub on-plain : (size takes gives : ℕ) → x ≡ Plain size takes gives → RightVisit t offset depth d s (Next size n)
       unfolding RightVisit seenOf
       on-plain size takes gives f k l = rw (g, known t offset depth x (Plain size takes gives) e f k) refl
@@ -64,13 +71,13 @@ module _ (t : List ℕ) (offset depth : ℕ) (d : List ℕ) (s : Seen) (x : Toke
         unfolding RightVisit seenOf Right
         on-memory r k l =
             let enough = inner-shorter t offset depth some x e size head f k l in
-            rw (r k enough, g, known t offset depth x (Memory size head) e f k) (seen-append d (inner t offset depth k head size) (rest t offset depth k size) (seenAfter t d s))
+            rw (r k enough, g, known t offset depth x (Memory size head) e f k) (seen-append d (inner t offset depth k head size) (rest t offset depth k size) (seenAfter t offset depth d s))
 
         pub memory-within : SeenWithin (length d) m → VisitWithin (length t) (length d) (Next size m)
         unfolding VisitWithin
         memory-within h = let p = memory-facts t offset depth some x e size head f in (omega arith, omega arith, h)
 
-pub ruleset on-token = (on-invalid, invalid-within, on-plain, plain-within, on-memory, memory-within, inner-laws)
+pub ruleset on-token = (on-invalid, invalid-within, plain-some, memory-some, on-plain, plain-within, on-memory, memory-within, inner-laws)
 
 -- ---- the formula b, of which `at` bytes are passed and n is seen; s was seen before it
 -- what is right from there on is right for the whole of b

@@ -1,4 +1,4 @@
--- The judgement of a formula: its tokens, then the bytes after them.
+-- The judgement of a formula: its tokens, then the bytes after them, then its jumps.
 use Prim.Native.Nat.{ℕ, zero, suc, _+_, _-_, _%_}
 use mathlib.Core.List.{List, [], _∷_, _++_}
 use lib.Dec.{ltb, eqb}
@@ -14,6 +14,7 @@ use Rattle.formula.specs.Judge.{ifAccepted, tokensJudged}
 use Rattle.trailing.specs.declared.Data.{Data}
 use Rattle.trailing.specs.declared.Data.the-variants.{Takes, Bad}
 use Rattle.trailing.specs.Trailing.{arrayOf, areasOf}
+use Rattle.jumps.specs.Jumps.{landsOf}
 
 -- ---- the tokens of a formula, over all its levels
 -- a token's bytes on to the end of its level; its offset in the outermost bytes; how many memory tokens it lies inside
@@ -63,6 +64,15 @@ trailingOf d end (p ∷ ps) at =
     (λ size. trailingOf d end ps (at + size))
     (dataOf (byteAt (p .bytes) 0) (drop at d))
 
--- ---- the tokens first, then the bytes after them
+-- ---- the jumps
+-- the first token with a jump that doesn't land is refused
+unfoldable pub jumpsOf : List Place → Judgement
+jumpsOf [] = Accepted
+jumpsOf (p ∷ ps) = pick (landsOf (p .bytes) (p .offset) (p .depth)) (jumpsOf ps) (Refused 13 (p .offset))
+
+-- ---- the tokens first, then the bytes after them, then the jumps
+unfoldable pub afterTokens : List ℕ → ℕ → List Place → Judgement
+afterTokens d end ps = ifAccepted (trailingOf d end ps 0) (jumpsOf ps)
+
 unfoldable pub judgeOf : List ℕ → List ℕ → Judgement
-judgeOf b d = ifAccepted (tokensJudged b) (trailingOf d (length b) (placesOf (length b) b 0 0) 0)
+judgeOf b d = ifAccepted (tokensJudged b) (afterTokens d (length b) (placesOf (length b) b 0 0))

@@ -1,4 +1,4 @@
--- What only inner contracts cite: the trailing bytes that are used in a walk over the tokens.
+-- What only inner contracts cite: the trailing data and the jumps seen in one walk over the tokens.
 use Prim.Native.Nat.{ℕ, suc, _+_, _≤_}
 use mathlib.Core.Path.{_≡_}
 use mathlib.Core.List.{List, [], _∷_}
@@ -8,32 +8,42 @@ use Rattle.walk.specs.Choice.{pick}
 use Rattle.le.specs.Bytes.{byteAt}
 use Rattle.formula.specs.declared.Judgement.{Judgement}
 use Rattle.formula.specs.declared.Judgement.the-variants.{Accepted, Refused}
+use Rattle.jumps.specs.Jumps.{landsOf}
 use Rattle.judge.specs.declared.Seen.{Seen}
-use Rattle.judge.specs.declared.Seen.the-variants.{Used, Spoilt}
+use Rattle.judge.specs.declared.Seen.the-variants.{Used, Astray, Spoilt}
 use Rattle.judge.specs.declared.Visit.{Visit}
 use Rattle.judge.specs.declared.Visit.the-variants.{Next, End}
 use Rattle.judge.specs.Judge.{Place, placesOf, dataOf, onData}
 
 -- after a token whose data starts at `at`
-unfoldable pub usedOf : List ℕ → List ℕ → ℕ → Seen
-usedOf t d at = onData (Spoilt at) (λ size. Used (at + size)) (dataOf (byteAt t 0) (drop at d))
+unfoldable pub usedOf : List ℕ → ℕ → ℕ → List ℕ → ℕ → Seen
+usedOf t offset depth d at = onData (Spoilt at) (λ size. pick (landsOf t offset depth) (Used (at + size)) (Astray (at + size) offset)) (dataOf (byteAt t 0) (drop at d))
 
-abbrev pub seenAfter : List ℕ → List ℕ → Seen → Seen
-seenAfter t d (Used at) = usedOf t d at
-seenAfter t d (Spoilt at) = Spoilt at
+unfoldable pub astrayOf : List ℕ → List ℕ → ℕ → ℕ → Seen
+astrayOf t d at jump = onData (Spoilt at) (λ size. Astray (at + size) jump) (dataOf (byteAt t 0) (drop at d))
+
+abbrev pub seenAfter : List ℕ → ℕ → ℕ → List ℕ → Seen → Seen
+seenAfter t offset depth d (Used at) = usedOf t offset depth d at
+seenAfter t offset depth d (Astray at jump) = astrayOf t d at jump
+seenAfter t offset depth d (Spoilt at) = Spoilt at
 
 unfoldable pub seenOf : List ℕ → List Place → Seen → Seen
 seenOf d [] s = s
-seenOf d (p ∷ ps) s = seenOf d ps (seenAfter (p .bytes) d s)
+seenOf d (p ∷ ps) s = seenOf d ps (seenAfter (p .bytes) (p .offset) (p .depth) d s)
 
 -- what was seen of all tokens, as a judgement
+unfoldable pub unlessLeft : List ℕ → ℕ → ℕ → Judgement → Judgement
+unlessLeft d end at answer = pick (ltb at (length d)) (Refused 13 (end + at)) answer
+
 abbrev pub verdictOf : List ℕ → ℕ → Seen → Judgement
-verdictOf d end (Used at) = pick (ltb at (length d)) (Refused 13 (end + at)) Accepted
+verdictOf d end (Used at) = unlessLeft d end at Accepted
+verdictOf d end (Astray at jump) = unlessLeft d end at (Refused 13 jump)
 verdictOf d end (Spoilt at) = Refused 13 (end + at)
 
 -- the place in the trailing bytes lies within them
 unfoldable pub SeenWithin : ℕ → Seen → Type 0
 SeenWithin left (Used at) = at ≤ left
+SeenWithin left (Astray at jump) = at ≤ left
 SeenWithin left (Spoilt at) = at ≤ left
 
 -- r is what is seen after the tokens from one on, whatever bound on them is enough

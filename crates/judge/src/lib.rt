@@ -1,17 +1,21 @@
-// Judging a formula whole: its tokens, and the data after them.
+// Judging a formula whole: its tokens, the data after them, and its jumps.
 ghost use mathlib.Core.Path.{_≡_};
 ghost use Prim.Native.Nat.{_+_, _^_, _≤_, _<_};
 ghost use lib.ListN.{length};
+ghost use Rattle.formula.specs.Tokens.{tokenOf};
+ghost use Rattle.jumps.specs.Jumps.{sizeOf};
 ghost use Rattle.judge.specs.Judge.{dataBy, dataOf, judgeOf};
-ghost use Rattle.judge.specs.Parts.{usedOf, seenAfter, verdictOf, SeenWithin, Right, RightVisit, VisitWithin};
+ghost use Rattle.judge.specs.Parts.{usedOf, astrayOf, seenAfter, unlessLeft, verdictOf, SeenWithin, Right, RightVisit, VisitWithin};
 use formula::Judgement;
 use formula::Token;
 use trailing::Data;
 
 // What was seen of the tokens so far.
 enum Seen {
-    // so many trailing bytes are used
+    // so many trailing bytes are used, and all jumps land
     Used(usize),
+    // so many trailing bytes are used; the offset of the first token with a jump that doesn't land
+    Astray(usize, usize),
     // where a token's data starts that is cut or bad
     Spoilt(usize),
 }
@@ -43,28 +47,50 @@ fn data(byte: u8, d: &[u8]) -> Data
     data_by(0x20 + (byte & 0x1F), d)
 }
 
-// A token whose data starts at `at` of the trailing bytes.
-fn after_used(t: &[u8], d: &[u8], at: usize) -> Seen
-    requires { ⌜ 0 < length (now t) ⌝ }
+// A token whose data starts at `at` of the trailing bytes, after which all jumps landed so far.
+fn after_used(t: &[u8], offset: usize, depth: u8, d: &[u8], at: usize) -> Seen
+    requires { ⌜ 0 < sizeOf (tokenOf (now t) offset depth) ⌝ }
+    requires { ⌜ offset + length (now t) < 2 ^ 32 ⌝ }
     requires { ⌜ at ≤ length (now d) ⌝ }
-    ensures { λ r. ⌜ r ≡ usedOf (now (t .entry)) (now (d .entry)) at ⌝ }
+    ensures { λ r. ⌜ r ≡ usedOf (now (t .entry)) offset depth (now (d .entry)) at ⌝ }
 {
     let found = data(t[0], &d[at..]);
     match found {
-        Data::Takes(size) => Seen::Used(at + size),
+        Data::Takes(size) => {
+            if jumps::lands(t, offset, depth) {
+                Seen::Used(at + size)
+            } else {
+                Seen::Astray(at + size, offset)
+            }
+        }
+        Data::Bad => Seen::Spoilt(at),
+    }
+}
+
+// A token after one with a jump that doesn't land.
+fn after_astray(t: &[u8], d: &[u8], at: usize, jump: usize) -> Seen
+    requires { ⌜ 0 < length (now t) ⌝ }
+    requires { ⌜ at ≤ length (now d) ⌝ }
+    ensures { λ r. ⌜ r ≡ astrayOf (now (t .entry)) (now (d .entry)) at jump ⌝ }
+{
+    let found = data(t[0], &d[at..]);
+    match found {
+        Data::Takes(size) => Seen::Astray(at + size, jump),
         Data::Bad => Seen::Spoilt(at),
     }
 }
 
 // A token: the one that t starts with.
-fn after_token(t: &[u8], d: &[u8], seen: Seen) -> Seen
-    requires { ⌜ 0 < length (now t) ⌝ }
+fn after_token(t: &[u8], offset: usize, depth: u8, d: &[u8], seen: Seen) -> Seen
+    requires { ⌜ 0 < sizeOf (tokenOf (now t) offset depth) ⌝ }
+    requires { ⌜ offset + length (now t) < 2 ^ 32 ⌝ }
     requires { ⌜ SeenWithin (length (now d)) seen ⌝ }
-    ensures { λ r. ⌜ r ≡ seenAfter (now (t .entry)) (now (d .entry)) seen ⌝ }
+    ensures { λ r. ⌜ r ≡ seenAfter (now (t .entry)) offset depth (now (d .entry)) seen ⌝ }
     ensures { λ r. ⌜ SeenWithin (length (now (d .entry))) r ⌝ }
 {
     match seen {
-        Seen::Used(at) => after_used(t, d, at),
+        Seen::Used(at) => after_used(t, offset, depth, d, at),
+        Seen::Astray(at, jump) => after_astray(t, d, at, jump),
         Seen::Spoilt(at) => Seen::Spoilt(at),
     }
 }
@@ -80,11 +106,11 @@ fn visit_token(t: &[u8], offset: usize, depth: u8, d: &[u8], seen: Seen) -> Visi
     let token = formula::first_token(t, offset, depth);
     match token {
         Token::Plain(size, _, _) => {
-            let here = after_token(t, d, seen);
+            let here = after_token(t, offset, depth, d, seen);
             Visit::Next(size, here)
         }
         Token::Memory(size, head) => {
-            let here = after_token(t, d, seen);
+            let here = after_token(t, offset, depth, d, seen);
             let inside = visit_formula(&t[head..size], offset + head, depth + 1, d, here);
             Visit::Next(size, inside)
         }
@@ -116,22 +142,37 @@ fn visit_formula(b: &[u8], base: usize, depth: u8, d: &[u8], seen: Seen) -> Seen
     so_far
 }
 
-// What was seen of all tokens, as an answer; `end` is where the tokens end.
+// Trailing bytes that are left from `at` on are refused; `end` is where the tokens end. Else the answer stands.
+fn unless_left(d: &[u8], end: usize, at: usize, answer: Judgement) -> Judgement
+    requires { ⌜ end < 2 ^ 32 ⌝ }
+    ensures { λ r. ⌜ r ≡ unlessLeft (now (d .entry)) end at answer ⌝ }
+{
+    if at < d.len() {
+        return Judgement::Refused {
+            number: 13,
+            offset: end + at,
+        };
+    }
+    answer
+}
+
+// What was seen of all tokens, as an answer.
 fn verdict(d: &[u8], end: usize, seen: Seen) -> Judgement
     requires { ⌜ end < 2 ^ 32 ⌝ }
     requires { ⌜ SeenWithin (length (now d)) seen ⌝ }
     ensures { λ r. ⌜ r ≡ verdictOf (now (d .entry)) end seen ⌝ }
 {
     match seen {
-        Seen::Used(at) => {
-            if at < d.len() {
-                return Judgement::Refused {
-                    number: 13,
-                    offset: end + at,
-                };
-            }
-            Judgement::Accepted
-        }
+        Seen::Used(at) => unless_left(d, end, at, Judgement::Accepted),
+        Seen::Astray(at, jump) => unless_left(
+            d,
+            end,
+            at,
+            Judgement::Refused {
+                number: 13,
+                offset: jump,
+            },
+        ),
         Seen::Spoilt(at) => Judgement::Refused {
             number: 13,
             offset: end + at,

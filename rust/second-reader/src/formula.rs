@@ -1,11 +1,12 @@
 //! Judging formula bytes: the tokens first, then the data that some of them have
-//! in the bytes after all tokens.
+//! in the bytes after all tokens, then where jumps lead.
 //!
 //! Formulas inside memory tokens are kept on a list of open formulas, each with
 //! its own count of operands, so one loop over the bytes is enough.
 
 use crate::cells::{is_error_code, is_truth};
 use crate::functions::argument_counts;
+use crate::jumps::Jumps;
 use crate::trailing::{self, Data};
 use crate::Refusal;
 
@@ -15,6 +16,7 @@ const MEMORY_DEPTHS: usize = 8;
 /// A formula whose end has not been reached.
 #[derive(Clone, Copy)]
 struct Open {
+    start: usize,
     end: usize,
     operands: usize,
 }
@@ -34,19 +36,27 @@ enum Token {
 /// Judges a whole formula: its tokens and the bytes after them. Offsets in the
 /// latter are counted on from the tokens' end.
 pub fn judge(tokens: &[u8], trailing: &[u8]) -> Result<(), Refusal> {
-    let wanted = judge_tokens(tokens)?;
-    trailing::judge(&wanted, trailing).map_err(|at| Refusal::new(13, tokens.len() + at))
+    let found = judge_tokens(tokens)?;
+    trailing::judge(&found.data, trailing).map_err(|at| Refusal::new(13, tokens.len() + at))?;
+    found.jumps.judge(tokens).map_err(|at| Refusal::new(13, at))
 }
 
-/// Judges the tokens, and gives the data that they want after them, in token
-/// order.
-fn judge_tokens(tokens: &[u8]) -> Result<Vec<Data>, Refusal> {
+/// What is found among the tokens and judged after them.
+#[derive(Default)]
+struct Found {
+    /// The data that tokens have after all tokens, in token order.
+    data: Vec<Data>,
+    jumps: Jumps,
+}
+
+fn judge_tokens(tokens: &[u8]) -> Result<Found, Refusal> {
     if !(1..=LONGEST_FORMULA).contains(&tokens.len()) {
         return Err(Refusal::new(13, 0));
     }
-    let mut wanted = Vec::new();
+    let mut found = Found::default();
     let mut outer: Vec<Open> = Vec::with_capacity(MEMORY_DEPTHS);
     let mut open = Open {
+        start: 0,
         end: tokens.len(),
         operands: 0,
     };
@@ -57,14 +67,15 @@ fn judge_tokens(tokens: &[u8]) -> Result<Vec<Data>, Refusal> {
                 return Err(Refusal::new(14, at));
             }
             match outer.pop() {
-                None => return Ok(wanted),
+                None => return Ok(found),
                 Some(holder) => open = holder,
             }
             open.operands += 1;
         }
         let whole = outer.is_empty() && tokens.len() == 5;
         let refuse = |number| Refusal::new(number, at);
-        wanted.extend(Data::of_token(tokens[at]));
+        found.data.extend(Data::of_token(tokens[at]));
+        found.jumps.pass(tokens, at, open.start..open.end);
         match token(&tokens[at..open.end], whole).map_err(refuse)? {
             Token::Step { size, takes, gives } => {
                 let left = open.operands.checked_sub(takes).ok_or(refuse(14))?;
@@ -76,6 +87,7 @@ fn judge_tokens(tokens: &[u8]) -> Result<Vec<Data>, Refusal> {
                 outer.push(open);
                 at += head;
                 open = Open {
+                    start: at,
                     end: at + inner,
                     operands: 0,
                 };

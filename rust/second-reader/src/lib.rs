@@ -17,6 +17,7 @@ mod cells;
 mod correction;
 mod formula;
 mod functions;
+mod jumps;
 mod print;
 mod records;
 mod refusal;

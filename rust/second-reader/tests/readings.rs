@@ -869,8 +869,12 @@ fn a49_tokens_that_are_unknown() {
     }
     for which in 0..=255 {
         let known = [0x01, 0x02, 0x04, 0x08, 0x10, 0x40, 0x41].contains(&which);
-        let tokens = [0x16, 0x19, which, 0, 0, 0, 0];
-        let tokens = &tokens[..if which == 4 { 7 } else { 5 }];
+        // A jump of many distances leads to the end, one of the others to a token.
+        let tokens: &[u8] = match which {
+            0x04 => &[0x16, 0x19, which, 0, 0, 2, 0],
+            0x08 => &[0x16, 0x19, which, 0, 0, 0x15],
+            _ => &[0x16, 0x19, which, 0, 0],
+        };
         let expected = if known { Ok(()) } else { refusal(13, 1) };
         assert_eq!(judge_tokens(tokens), expected, "{which:02X}");
     }
@@ -882,16 +886,24 @@ fn a50_operands_of_paren_and_attributes() {
     assert_eq!(judge_tokens(&[0x16, 0x15]), Ok(()));
     assert_eq!(judge_tokens(&[0x19, 0x10, 9, 9]), refusal(14, 0));
     assert_eq!(judge_tokens(&[0x16, 0x19, 0x10, 9, 9]), Ok(()));
-    for which in [0x01, 0x02, 0x08, 0x40, 0x41] {
+    for which in [0x01, 0x40, 0x41] {
         assert_eq!(judge_tokens(&[0x19, which, 9, 9, 0x16]), Ok(()));
         assert_eq!(judge_tokens(&[0x16, 0x19, which, 9, 9]), Ok(()));
+    }
+    // Those that jump must land.
+    assert_eq!(judge_tokens(&[0x19, 0x02, 0, 0, 0x16]), Ok(()));
+    assert_eq!(judge_tokens(&[0x16, 0x19, 0x02, 0, 0]), Ok(()));
+    assert_eq!(judge_tokens(&[0x19, 0x08, 0, 0, 0x16]), Ok(()));
+    for which in [0x01, 0x02, 0x08, 0x40, 0x41] {
         assert_eq!(judge_tokens(&[0x19, which, 9, 9]), refusal(14, 4));
         assert_eq!(judge_tokens(&[0x19, which, 9]), refusal(13, 0));
     }
     let choose = |n: u16, words: usize| {
         let [low, high] = n.to_le_bytes();
         let mut tokens = vec![0x16, 0x19, 0x04, low, high];
-        tokens.resize(5 + 2 * words, 0xEE);
+        // All to the end.
+        let end = (2 * words as u16).to_le_bytes();
+        tokens.extend(end.repeat(words));
         judge_tokens(&tokens)
     };
     assert_eq!(choose(0, 1), Ok(()));

@@ -1,5 +1,6 @@
 //! Formula bytes.
 
+use crate::jumps;
 use crate::record::ERROR_CODES;
 use crate::rng::Rng;
 use crate::trailing;
@@ -79,11 +80,19 @@ pub(crate) fn any(rng: &mut Rng) -> Formula {
 
 /// A short valid formula.
 pub(crate) fn small(rng: &mut Rng) -> Formula {
-    expression(rng, 4)
+    let mut formula = expression(rng, 4);
+    jumps::land(rng, &mut formula.tokens);
+    formula
 }
 
 /// A valid formula.
 pub(crate) fn valid(rng: &mut Rng) -> Formula {
+    let mut formula = valid_but_for_jumps(rng);
+    jumps::land(rng, &mut formula.tokens);
+    formula
+}
+
+fn valid_but_for_jumps(rng: &mut Rng) -> Formula {
     match rng.below(100) {
         0..=1 => alone(rng),
         2..=4 => padded(rng),
@@ -167,8 +176,9 @@ impl Maker {
             0..=2 => append_leaf(rng, formula),
             3..=5 => self.unary(rng, formula),
             6..=11 => self.binary(rng, formula),
-            12..=14 => self.fixed_function(rng, formula),
-            15..=17 => self.variable_function(rng, formula),
+            12..=13 => self.fixed_function(rng, formula),
+            14..=16 => self.variable_function(rng, formula),
+            17 => self.conditional(rng, formula),
             _ => self.memory(rng, formula),
         }
     }
@@ -209,6 +219,24 @@ impl Maker {
         };
         self.arguments(rng, formula, count);
         append_counted(rng, &mut formula.tokens, index, count);
+    }
+
+    /// IF or CHOOSE with the jumps that lead over what isn't taken.
+    fn conditional(&mut self, rng: &mut Rng, formula: &mut Formula) {
+        let choices = rng.between(1, 3);
+        let is_if = choices < 3 && rng.percent(60);
+        self.expression(rng, formula);
+        if is_if {
+            attribute_of(rng, &mut formula.tokens, &[0x02]);
+        } else {
+            append_choose(rng, &mut formula.tokens, choices);
+        }
+        for _ in 0..choices {
+            self.expression(rng, formula);
+            attribute_of(rng, &mut formula.tokens, &[0x08]);
+        }
+        let index = if is_if { 1 } else { 100 };
+        append_counted(rng, &mut formula.tokens, index, choices + 1);
     }
 
     fn arguments(&mut self, rng: &mut Rng, formula: &mut Formula, count: usize) {
@@ -265,14 +293,19 @@ fn attribute(rng: &mut Rng, tokens: &mut Vec<u8>) {
 
 fn attribute_of(rng: &mut Rng, tokens: &mut Vec<u8>, kinds: &[u8]) {
     let which = rng.pick(kinds);
-    tokens.extend([0x19, which]);
     if which == 0x04 {
         let n = rng.mostly_small(0, 6);
-        tokens.extend((n as u16).to_le_bytes());
-        rng.append(tokens, 2 * (n + 1));
-    } else {
-        rng.append(tokens, 2);
+        return append_choose(rng, tokens, n);
     }
+    tokens.extend([0x19, which]);
+    rng.append(tokens, 2);
+}
+
+/// Appends the token with so many distances and one more.
+fn append_choose(rng: &mut Rng, tokens: &mut Vec<u8>, n: usize) {
+    tokens.extend([0x19, 0x04]);
+    tokens.extend((n as u16).to_le_bytes());
+    rng.append(tokens, 2 * (n + 1));
 }
 
 const OPERANDS: [(u8, usize); 19] = [
@@ -364,6 +397,9 @@ fn thrown_together(rng: &mut Rng) -> Formula {
             _ => append_leaf(rng, &mut formula),
         }
     }
+    if rng.percent(70) {
+        jumps::land(rng, &mut formula.tokens);
+    }
     formula
 }
 
@@ -396,6 +432,9 @@ fn append_function(rng: &mut Rng, tokens: &mut Vec<u8>) {
 fn damaged(rng: &mut Rng) -> Formula {
     let mut formula = valid(rng);
     for _ in 0..rng.pick(&[1, 1, 1, 2, 3]) {
+        if rng.percent(40) && jumps::lead_astray(rng, &mut formula.tokens) {
+            continue;
+        }
         if rng.percent(if formula.trailing.is_empty() { 10 } else { 50 }) {
             trailing::damage(rng, &mut formula);
         } else {

@@ -12,6 +12,7 @@ mod cells;
 mod contents;
 mod damage;
 mod formula;
+mod jumps;
 mod questions;
 mod record;
 mod rng;

@@ -77,11 +77,11 @@ pub +visit-formula+visit-token-spec : {M : Type 1} → statement M
     -- enum-known-token
     (λ c. search needs)
     -- after-token-requires
-    (λ c κs. (search needs, search needs))
+    (λ c κs. (search on-token, (search needs, search needs)))
     -- enum-known-token-2
     (λ c. search needs)
     -- after-token-requires-2
-    (λ c κs. (search needs, search needs))
+    (λ c κs. (search on-token, (search needs, search needs)))
     -- sub-visit-formula
     (λ c. search on-token)
     -- part-visit-formula-start

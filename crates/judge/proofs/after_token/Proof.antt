@@ -1,4 +1,5 @@
 use Rattle.judge.proofs.OneToken.{on-seen}
+use Rattle.jumps.proofs.Laws.{token-some}
 use borrow.Author.Needs.{needs}
 use Rattle.judge.proofs.after_token.Statement.{statement}
 use Rattle.judge.proofs.after_token.Tie as tie
@@ -10,10 +11,16 @@ after-token-spec =
     -- enum-known-seen
     (λ c. search needs)
     -- after-used-requires
-    (λ c κs. (search needs, search on-seen))
+    (λ c κs. (search needs, (search needs, search on-seen)))
     -- enum-known-seen-2
+    (λ c. search needs)
+    -- after-astray-requires
+    (λ c κs. (search token-some, search on-seen))
+    -- enum-known-seen-3
     (λ c. search needs)
     -- returns
     (λ c. (search on-seen, search on-seen))
     -- returns-2
+    (λ c. (search on-seen, search on-seen))
+    -- returns-3
     (λ c. (search on-seen, search on-seen)))

@@ -1,4 +1,5 @@
 use Rattle.judge.proofs.OneToken.{on-data}
+use Rattle.jumps.proofs.Laws.{token-some}
 use borrow.Author.Needs.{needs}
 use Rattle.judge.proofs.after_used.Statement.{statement}
 use Rattle.judge.proofs.after_used.Tie as tie
@@ -8,7 +9,7 @@ after-used-spec =
     tie.close
     (tie.spec
     -- shared-slice-read-data
-    (λ c. search needs)
+    (λ c. search token-some)
     -- sub-data
     (λ c. search needs)
     -- part-data-start
@@ -19,11 +20,17 @@ after-used-spec =
     (λ c κs. search needs)
     -- enum-known-found
     (λ c. search needs)
-    -- add-t14
+    -- lands-requires
+    (λ c κs. search needs)
+    -- add-t17
+    (λ c. search (on-data, needs))
+    -- add-t18
     (λ c. search (on-data, needs))
     -- enum-told
     (λ c. search needs)
     -- returns
     (λ c. search on-data)
     -- returns-2
+    (λ c. search on-data)
+    -- returns-3
     (λ c. search on-data))

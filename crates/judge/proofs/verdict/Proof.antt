@@ -1,7 +1,6 @@
 use native.Mathlib.Omega.{arith}
 use Rattle.judge.proofs.OneToken.{spoilt-fits}
 use Rattle.judge.proofs.Judged.{verdict-by}
-use Rattle.walk.proofs.Choice.{picks}
 use borrow.Author.Needs.{needs}
 use Rattle.judge.proofs.verdict.Statement.{statement}
 use Rattle.judge.proofs.verdict.Tie as tie
@@ -12,15 +11,19 @@ verdict-spec =
     (tie.spec
     -- enum-known-seen
     (λ c. search needs)
-    -- add-t9
-    (λ c. search needs)
-    -- returns
-    (λ c. search (verdict-by, picks) depth 8)
+    -- unless-left-requires
+    (λ c κs. search needs)
     -- enum-known-seen-2
     (λ c. search needs)
-    -- add-t10
-    (λ c. spoilt-fits (c .before .before .before .args .d .now) (c .before .before .before .args .seen) (c .before .before .before .pre .1) _ _ (c .before .before .before .pre .0) (omega arith) (c .before .seen2 .given .1))
+    -- unless-left-requires-2
+    (λ c κs. search needs)
+    -- enum-known-seen-3
+    (λ c. search needs)
+    -- add-t11
+    (λ c. spoilt-fits (c .before .before .before .before .args .d .now) (c .before .before .before .before .args .seen) (c .before .before .before .before .pre .1) _ _ (c .before .before .before .before .pre .0) (omega arith) (c .before .seen3 .given .1))
+    -- returns
+    (λ c. search verdict-by)
     -- returns-2
-    (λ c. search (verdict-by, picks) depth 8)
+    (λ c. search verdict-by)
     -- returns-3
-    (λ c. search (verdict-by, picks) depth 8))
+    (λ c. search verdict-by))
