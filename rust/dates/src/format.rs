@@ -125,27 +125,23 @@ fn bracketed(inner: &[u8]) -> Piece {
 
 /// A word or a run of letters, in capitals or not. No rule for exponents is needed: E+00 has places for digits.
 fn word(rest: &[u8]) -> (Piece, usize) {
-    const WORDS: [(&[u8], Piece); 3] = [
-        (b"general", Piece::Number),
-        (b"am/pm", Piece::HalfDay),
-        (b"a/p", Piece::HalfDay),
-    ];
-    for (word, piece) in WORDS {
-        if rest.len() >= word.len() && rest[..word.len()].eq_ignore_ascii_case(word) {
-            return (piece, word.len());
-        }
-    }
-    let length = run(rest);
-    let piece = match rest[0].to_ascii_lowercase() {
-        b'y' | b'd' | b'g' | b'e' => Piece::Part(Part::Date),
-        b'm' if length > 2 => Piece::Part(Part::Date),
-        b'm' => Piece::Part(Part::MonthOrMinute),
-        b'h' => Piece::Part(Part::Hour),
-        b's' => Piece::Part(Part::Second),
-        // One at a time: the next may start a word.
+    let part = match rest[0].to_ascii_lowercase() {
+        b'g' if starts_with(rest, b"general") => return (Piece::Number, 7),
+        b'a' if starts_with(rest, b"am/pm") => return (Piece::HalfDay, 5),
+        b'a' if starts_with(rest, b"a/p") => return (Piece::HalfDay, 3),
+        b'y' | b'd' | b'g' | b'e' => Part::Date,
+        b'm' if run(rest) > 2 => Part::Date,
+        b'm' => Part::MonthOrMinute,
+        b'h' => Part::Hour,
+        b's' => Part::Second,
         _ => return (Piece::Literal, 1),
     };
-    (piece, length)
+    (Piece::Part(part), run(rest))
+}
+
+fn starts_with(text: &[u8], word: &[u8]) -> bool {
+    text.get(..word.len())
+        .is_some_and(|front| front.eq_ignore_ascii_case(word))
 }
 
 /// What the pieces of one section add up to.

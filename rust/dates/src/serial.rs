@@ -9,6 +9,9 @@ const DAYS_TO_1904: u64 = 1_462;
 /// 9999-12-31.
 const LAST_DAY: u64 = 2_958_465;
 
+/// How many characters there are at most: `2004-02-29T13:05:00.250`.
+const LONGEST: usize = 23;
+
 /// A number by ISO 8601; `None` where it stays a number.
 pub fn show(kind: Kind, system: System, serial: f64) -> Option<String> {
     let milliseconds = milliseconds(serial)?;
@@ -21,12 +24,18 @@ pub fn show(kind: Kind, system: System, serial: f64) -> Option<String> {
     if day > LAST_DAY {
         return None;
     }
-    Some(match kind {
-        Kind::Date => date(day),
-        Kind::Time => time_of_day(time),
-        Kind::DateTime => format!("{}T{}", date(day), time_of_day(time)),
-        Kind::Elapsed => duration(milliseconds),
-    })
+    let mut text = String::with_capacity(LONGEST);
+    match kind {
+        Kind::Date => push_date(&mut text, day),
+        Kind::Time => push_time(&mut text, time),
+        Kind::DateTime => {
+            push_date(&mut text, day);
+            text.push('T');
+            push_time(&mut text, time);
+        }
+        Kind::Elapsed => push_duration(&mut text, milliseconds),
+    }
+    Some(text)
 }
 
 /// A number of days in milliseconds, rounded once, over whole numbers, to the nearest; of two equally near ones to the later. `None` for numbers that no
@@ -52,13 +61,17 @@ fn milliseconds(days: f64) -> Option<u64> {
 }
 
 /// A day of the 1900 system. January and February 1900 are as Excel has them, with day 0 and 29 February.
-fn date(day: u64) -> String {
+fn push_date(text: &mut String, day: u64) {
     let (year, month, day) = match day {
         0..=31 => (1900, 1, day),
         32..=60 => (1900, 2, day - 31),
         _ => from_march(day - 61),
     };
-    format!("{year:04}-{month:02}-{day:02}")
+    push(text, 4, year);
+    text.push('-');
+    push(text, 2, month);
+    text.push('-');
+    push(text, 2, day);
 }
 
 /// The year, month and day so many days after 1900-03-01. Years are counted from March to February, so that a leap day is the last of its year.
@@ -90,21 +103,22 @@ fn from_march(days: u64) -> (u64, u64, u64) {
 }
 
 /// `13:05:00`, or `13:05:00.250`.
-fn time_of_day(milliseconds: u64) -> String {
+fn push_time(text: &mut String, milliseconds: u64) {
     let (hours, minutes, seconds) = parts(milliseconds);
-    format!(
-        "{hours:02}:{minutes:02}:{seconds:02}{}",
-        thousandths(milliseconds)
-    )
+    push(text, 2, hours);
+    text.push(':');
+    push(text, 2, minutes);
+    text.push(':');
+    push(text, 2, seconds);
+    push_thousandths(text, milliseconds);
 }
 
 /// `PT36H5M0S`, or `PT36H5M0.250S`.
-fn duration(milliseconds: u64) -> String {
+fn push_duration(text: &mut String, milliseconds: u64) {
     let (hours, minutes, seconds) = parts(milliseconds);
-    format!(
-        "PT{hours}H{minutes}M{seconds}{}S",
-        thousandths(milliseconds)
-    )
+    text.push_str(&format!("PT{hours}H{minutes}M{seconds}"));
+    push_thousandths(text, milliseconds);
+    text.push('S');
 }
 
 /// Whole hours, minutes and seconds.
@@ -114,10 +128,19 @@ fn parts(milliseconds: u64) -> (u64, u64, u64) {
 }
 
 /// What is more than a whole second, if anything.
-fn thousandths(milliseconds: u64) -> String {
-    match milliseconds % 1_000 {
-        0 => String::new(),
-        more => format!(".{more:03}"),
+fn push_thousandths(text: &mut String, milliseconds: u64) {
+    let more = milliseconds % 1_000;
+    if more > 0 {
+        text.push('.');
+        push(text, 3, more);
+    }
+}
+
+/// A number that has at most so many digits, with zeros in front. Formatting by the standard library takes several times as long.
+fn push(text: &mut String, digits: u32, number: u64) {
+    for place in (0..digits).rev() {
+        let digit = number / 10u64.pow(place) % 10;
+        text.push(char::from(b'0' + digit as u8));
     }
 }
 
@@ -172,11 +195,12 @@ mod tests {
     /// A calendar that goes from day to day, and knows no more than how long months are.
     #[test]
     fn every_day() {
-        let leap = |year: u64| year % 4 == 0 && (year % 100 != 0 || year % 400 == 0);
+        let multiple = |year: u64, of: u64| year.is_multiple_of(of);
+        let leap = |year| multiple(year, 4) && (!multiple(year, 100) || multiple(year, 400));
         let (mut year, mut month, mut day) = (1900, 3, 1);
         for serial in 61..=LAST_DAY {
             let expected = format!("{year:04}-{month:02}-{day:02}");
-            assert_eq!(date(serial), expected);
+            assert_eq!(date_of(System::From1900, serial as f64), Some(expected));
             let length = match month {
                 2 if leap(year) => 29,
                 2 => 28,

@@ -329,7 +329,7 @@ fn damaged_streams() {
     }
     let mut damaged = stream.to_vec();
     for at in 0..stream.len().min(6_000) {
-        for byte in [0x00, 0x01, 0x80, 0xFF, stream[at] ^ 0x04] {
+        for byte in [0x00, 0xFF, stream[at] ^ 0x04] {
             damaged[at] = byte;
             ask(&damaged);
         }
@@ -339,32 +339,36 @@ fn damaged_streams() {
 
 const LONGEST_STREAM: usize = 16_777_216;
 
-/// As many records as a stream has room for.
-fn filled(front: &[Vec<u8>], record: impl Fn(usize) -> Vec<u8>, back: &[Vec<u8>]) -> Vec<u8> {
-    let mut stream = globals(front);
-    let eof = stream.split_off(stream.len() - 4);
-    let back = back.concat();
-    let room = LONGEST_STREAM - stream.len() - eof.len() - back.len();
-    for number in 0..room / record(0).len() {
-        stream.extend(record(number));
-    }
-    [stream, back, eof].concat()
+/// Globals with these records in front and at the end, and between them as many of the others as a stream has room for.
+fn filled(front: &[Vec<u8>], others: &[Vec<u8>], back: &[Vec<u8>]) -> Vec<u8> {
+    let others = others.concat();
+    let room = LONGEST_STREAM - globals(&[front.concat(), back.concat()]).len();
+    let others = others.repeat(room / others.len());
+    globals(&[front.concat(), others, back.concat()])
 }
 
 #[test]
 fn millions_of_formats() {
-    let any = |number: usize| format(number as u16, "d");
-    let stream = filled(&[datemode(0), xf(0)], any, &[format(0, "h")]);
+    let all: Vec<_> = (0..=u16::MAX).map(|index| format(index, "d")).collect();
+    let stream = filled(&[datemode(0), xf(0)], &all, &[format(0, "h")]);
     assert!(station::check(&stream).is_ok());
     assert_eq!(kinds(&stream, 1), [TIME]);
-    let one = |_| format(164, &"d;".repeat(127));
-    let stream = filled(&[datemode(0), xf(164)], one, &[format(164, "h")]);
-    assert_eq!(kinds(&stream, 1), [TIME]);
+    // One index, and strings that are as long as strings can be.
+    for text in ["d", "x", "[", "[h", "\"", "m;"] {
+        let text = text.repeat(255 / text.len());
+        let stream = filled(
+            &[datemode(0)],
+            &[format(164, &text)],
+            &[format(164, "h"), xf(164)],
+        );
+        assert_eq!(kinds(&stream, 1), [TIME], "{text}");
+    }
 }
 
 #[test]
 fn more_xfs_than_cells_can_name() {
-    let stream = filled(&[datemode(0)], |number| xf(14 + number as u16 % 9), &[]);
+    let xfs: Vec<_> = (14..=22).map(xf).collect();
+    let stream = filled(&[datemode(0)], &xfs, &[]);
     assert!(station::check(&stream).is_ok());
     let formats = Formats::read(&stream);
     assert_eq!(formats.kind(0), DATE);
