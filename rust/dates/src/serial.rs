@@ -44,14 +44,10 @@ fn milliseconds(days: f64) -> Option<u64> {
     if !(0.0..(LAST_DAY + 1) as f64).contains(&days) {
         return None;
     }
-    // The number of days is significand / 2^shift.
+    // The number of days is significand / 2^shift; zero, and what is so small that it has no leading one, comes to nothing by the shift alone.
     let exponent = (days.to_bits() >> 52 & 0x7FF) as u32;
-    let fraction = days.to_bits() & ((1 << 52) - 1);
-    let significand = match exponent {
-        0 => fraction,
-        _ => fraction | 1 << 52,
-    };
-    let shift = 1_075 - exponent.max(1);
+    let significand = days.to_bits() & ((1 << 52) - 1) | 1 << 52;
+    let shift = 1_075 - exponent;
     // Below 2^80, so that a shift by more than 81 leaves nothing. The least shift is 31: there are fewer than 2^22 days.
     let scaled = u128::from(significand) * u128::from(MILLISECONDS_A_DAY);
     match shift {

@@ -219,6 +219,7 @@ fn formats_of_one_index() {
         format(14, "0.00"),
         format(59, "mmm d, yyyy"),
         record(FORMAT, &[15, 0, 9, 0, 0, b'0']),
+        format(15, ""),
     ]);
     assert_eq!(kinds(&stream, 6), [TIME, None, None, DATE, DATE, None]);
 }
@@ -242,6 +243,8 @@ fn damaged_formats_are_ignored() {
     assert_eq!(read(&other), ELAPSED);
     other[4] = 0xFF;
     assert_eq!(read(&other), None);
+    // The low byte of this character is that of a d.
+    assert_eq!(read(&format_body(164, "\u{164}")), None);
     // A damaged one takes nothing from a whole one.
     let cut = record(FORMAT, &whole[..8]);
     let stream = globals(&[datemode(0), record(FORMAT, &whole), cut, xf(164)]);
@@ -291,7 +294,7 @@ fn date_systems() {
     assert_eq!(read(&[datemode(0), datemode(1), datemode(0)]), (None, None));
     assert_eq!(read(&[datemode(2)]), (None, None));
     assert_eq!(read(&[datemode(2), datemode(0)]), (None, None));
-    for body in [&[][..], &[0], &[1, 0, 0], &[0, 1], &[0xFF, 0xFF]] {
+    for body in [&[][..], &[0], &[1, 0, 0], &[0, 1], &[1, 1], &[0xFF, 0xFF]] {
         assert_eq!(read(&[record(DATEMODE, body)]), (None, None));
     }
     // None at all.
