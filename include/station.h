@@ -92,11 +92,10 @@ uint32_t station_rows(const uint8_t *stream, size_t length, size_t at, uint16_t 
 /* list: the cells of a sheet, as many at a time as the buffer has room for, four words each:
  *   row, column, format and the value's kind, 16 bits each from the lowest;
  *   the value: a number's 64 bits, a text's index, a truth or an error code, else 0;
- *   the offset of the value field;
+ *   the offset of the value field (of a blank, of its format);
  *   the number of a formula's token bytes, which start 16 bytes after the value field, and of the bytes after them to the
  *   record's end, 16 bits each from the lowest.
  * Kinds: 0 blank, 1 number, 2 text, 3 truth, 4 error; a formula's result: 5 number, 6 text, 7 truth, 8 error, 9 empty.
- * A blank's value field is its format.
  * room is the buffer's length in words; words after the cells that were written stay. The list ended, or goes on at the place at,
  * part, level. With room for less than one cell (under four words) it neither moves nor ends: a loop would go on for ever. */
 struct station_cells { uint8_t number; size_t offset; size_t at; uint16_t part; uint8_t level; };

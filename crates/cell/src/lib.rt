@@ -311,8 +311,7 @@ fn blank_cell(s: &[u8], at: usize, size: usize, k: u16) -> Found
     if 0 < k {
         return Found::Absent;
     }
-    let q = at + 8;
-    single(s, at, Field::NoField, q, CellValue::Blank, no_tokens())
+    single(s, at, Field::NoField, at + 8, CellValue::Blank, no_tokens())
 }
 
 fn number_cell(s: &[u8], at: usize, size: usize, k: u16) -> Found

@@ -1,7 +1,7 @@
 -- Demand 3. Assumes nothing.
-use Prim.Native.Nat.{ℕ, _+_, _/_, _%_, _^_, _<_}
-use mathlib.Core.Path.{_≡_, refl, sym, ap, _∙_, subst}
-use mathlib.Core.List.{List, [], _∷_}
+use Prim.Native.Nat.{ℕ, zero, suc, _+_, _/_, _%_, _^_, _<_}
+use mathlib.Core.Path.{_≡_, refl, sym, ap, ap₂, _∙_, subst}
+use mathlib.Core.List.{List, [], _∷_, map}
 use mathlib.Core.Logic.{_⊎_, inl, inr, _↔_}
 use mathlib.Core.Bool.{Bool, true, false, not}
 use native.Mathlib.Omega.{arith}
@@ -23,6 +23,7 @@ use Rattle.number.specs.declared.Packed.the-variants.{Word, Unpacked}
 use Rattle.number.proofs.Laws.{bits-of-lt, refused-exactly}
 use Rattle.value.specs.declared.Field.{Field}
 use Rattle.value.specs.declared.Field.the-variants.{NoField, Float, RkWord, TextIndex, TruthError, StoredResult}
+use Rattle.value.specs.declared.CellValue.{CellValue}
 use Rattle.value.specs.Value.{widthOf, valueOf}
 use Rattle.cell.specs.declared.Cell.{Cell}
 use Rattle.change.specs.declared.NewValue.{NewValue}
@@ -30,7 +31,7 @@ use Rattle.change.specs.declared.NewValue.the-variants.{Number, Text, Truth, Er
 use Rattle.change.specs.declared.Answer.the-variants as changed
 use Rattle.change.specs.declared.Plan.{Plan}
 use Rattle.change.specs.declared.Plan.the-variants as plan
-use Rattle.change.specs.Change.{Held, putIf, finite, floatPlan, packedPlan, planOf}
+use Rattle.change.specs.Change.{Held, newOf, putIf, finite, floatPlan, packedPlan, planOf}
 use Rattle.kept.proofs.Planned.{planned, unpacked}
 use Rattle.sheetlist.specs.Agreement.{Sheet}
 use Rattle.globals.specs.declared.Globals.{Globals}
@@ -39,16 +40,16 @@ use Rattle.workbook.specs.declared.Checked.{Checked}
 use Rattle.workbook.specs.declared.Checked.the-variants.{Right, Wrong}
 use Rattle.workbook.specs.declared.Answer.the-variants.{Passed}
 use Rattle.workbook.specs.Check.{checkedOf, answered, checkOf, onChecked}
-use Rattle.reading.specs.Reading.{startOf, listedOf, readingOf}
+use Rattle.reading.specs.Reading.{startOf, listedOf, CellReading, SheetReading, Reading, readingOf}
 use Rattle.correction.specs.Correction.{Correction, refuses, writes, cellsAt, onPlan, onCells, correctionOf, answerOf, streamAfter}
 use Rattle.chain.specs.Chain.{Nth}
 use Rattle.chain.proofs.Chain.{nth-is, nth-missing, nth-either}
 use Rattle.upheld.specs.Granted.{Granted}
 use Rattle.upheld.proofs.Granted.{granted, listed-only, field-high}
 use Rattle.upheld.proofs.Upheld.{upheld, sheets-stay}
-use Rattle.reread.specs.Replaced.{valuesAt}
+use Rattle.reread.specs.Replaced.{hasAddress, replacedCell, replacedSheet, onNth, valuesAt}
 use Rattle.reread.proofs.Reading.{reads-replaced, new-after}
-use Rattle.claims.specs.Demand3.{Corrects, Only, One, HoldsNew, OthersStay, passed, Passes, ReadsNew, OneAfter, takes, Unfit, Refusal, checked, no-sheet, no-cell, many, kind, value, RefusedExactly, RefusedKeeps, PackedExactly}
+use Rattle.claims.specs.Demand3.{Corrects, Only, One, HoldsNew, OthersStay, passed, Passes, ReadsNew, OneAfter, Spot, spotOf, spotsOf, SpotsStay, takes, Unfit, Refusal, checked, no-sheet, no-cell, many, kind, value, RefusedExactly, RefusedKeeps, PackedExactly}
 
 -- ---- a granted correction: what was written, and into which cell
 record Made (s : List ℕ) (n row column : ℕ) (v : NewValue) (t : List ℕ) : Type 0 where
@@ -119,6 +120,29 @@ pub one-after : OneAfter
 one-after s n row column v t h =
     let m = made h in
     one m (ap (λ (x : List ℕ). valuesAt n row column (readingOf x)) (m .after) ∙ new-after s n row column v (m .kind) (m .place) (m .number) (h .held) (m .is))
+
+-- what is replaced is a value
+spots-cells : (row column : ℕ) (v : CellValue) (l : List CellReading) → map spotOf (map (replacedCell row column v) l) ≡ map spotOf l
+spots-cells row column v [] = refl
+spots-cells row column v (c ∷ l) =
+    ap₂ (λ (x : Spot) (y : List Spot). x ∷ y)
+    (pick-by (λ (d : CellReading). spotOf d ≡ spotOf c) (hasAddress row column c) (λ _. refl) (λ _. refl)) (spots-cells row column v l)
+
+spots-sheets : (n row column : ℕ) (v : CellValue) (l : List SheetReading) → spotsOf (onNth n (replacedSheet row column v) l) ≡ spotsOf l
+unfolding onNth
+spots-sheets n row column v [] = refl
+spots-sheets zero row column v (x ∷ l) = ap (λ (y : List Spot). y ∷ spotsOf l) (spots-cells row column v (x .cells))
+spots-sheets (suc n) row column v (x ∷ l) = ap (λ (y : List (List Spot)). map spotOf (x .cells) ∷ y) (spots-sheets n row column v l)
+
+pub spots-stay : SpotsStay
+spots-stay s n row column v t h =
+    let read = reads-new s n row column v t h in
+    record {
+      cell = read .cell;
+      unique = read .unique;
+      only = read .only;
+      holds = ap (λ (r : Reading). spotsOf (r .sheets)) (read .holds) ∙ spots-sheets n row column (newOf v) (readingOf s .sheets);
+    }
 
 -- ---- refused exactly when the table says
 -- which row a plan meets, where t says that the kind takes the value and U that it doesn't fit

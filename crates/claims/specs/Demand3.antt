@@ -1,7 +1,7 @@
 -- Demand 3, a claim for each of its sentences. They speak of what `correction::correct` promises of a call.
 use Prim.Native.Nat.{ℕ, _+_, _≤_, _<_}
 use mathlib.Core.Path.{_≡_}
-use mathlib.Core.List.{List, [], _∷_}
+use mathlib.Core.List.{List, [], _∷_, map}
 use mathlib.Core.Logic.{_⊎_, _↔_}
 use mathlib.Core.Bool.{Bool, true, false}
 use lib.Ieee.{Float as F64}
@@ -26,7 +26,7 @@ use Rattle.workbook.specs.declared.Checked.the-variants.{Right, Wrong}
 use Rattle.workbook.specs.declared.Answer.{Answer}
 use Rattle.workbook.specs.declared.Answer.the-variants.{Passed, Refused}
 use Rattle.workbook.specs.Check.{checkedOf, checkOf}
-use Rattle.reading.specs.Reading.{listedOf, readingOf}
+use Rattle.reading.specs.Reading.{CellReading, SheetReading, listedOf, readingOf}
 use Rattle.correction.specs.Correction.{cellsAt, correctionOf, answerOf, streamAfter}
 use Rattle.chain.specs.Chain.{Nth}
 use Rattle.reread.specs.Replaced.{replaced, valuesAt}
@@ -83,6 +83,22 @@ ReadsNew = Granted (λ s n row column v c t. readingOf t ≡ replaced n row colu
 -- the address has one cell still, with the new value
 abbrev pub OneAfter : Type 0
 OneAfter = Granted (λ s n row column v c t. valuesAt n row column (readingOf t) ≡ newOf v ∷ [])
+
+-- format and place stay for all cells of all sheets, in order and at their addresses
+pub record Spot : Type 0 where
+  pub row : ℕ
+  pub column : ℕ
+  pub format : ℕ
+  pub place : ℕ
+
+abbrev pub spotOf : CellReading → Spot
+spotOf c = record { row = c .row; column = c .column; format = c .format; place = c .place }
+
+abbrev pub spotsOf : List SheetReading → List (List Spot)
+spotsOf l = map (λ (x : SheetReading). map spotOf (x .cells)) l
+
+abbrev pub SpotsStay : Type 0
+SpotsStay = Granted (λ s n row column v c t. spotsOf (readingOf t .sheets) ≡ spotsOf (readingOf s .sheets))
 
 -- ---- a correction is refused exactly when the table says
 -- a number goes to NUMBER, RK or MULRK, a text index to LABELSST, truth or error to BOOLERR

@@ -20,6 +20,8 @@ pub record CellGiven (s : List ℕ) (v : Place) (x : CellReading) (w : Place) : 
   pub row : cell .row ≡ x .row
   pub column : cell .column ≡ x .column
   pub value : cell .value ≡ x .value
+  pub format : cell .format ≡ x .format
+  pub place : cell .field ≡ x .place
   pub tokens : tokensIn s cell ≡ x .tokens
   pub trailing : trailingBytes s cell ≡ x .trailing
 

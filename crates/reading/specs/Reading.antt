@@ -1,5 +1,5 @@
--- The reading of a stream: in order, each sheet's name, width, type, row count and listed cells (row, column, value, a formula's tokens and the bytes after them), and each
--- shared string's units.
+-- The reading of a stream: in order, each sheet's name, width, type, row count and listed cells (row, column, value, a formula's tokens and the bytes after them,
+-- format index, and the offset of the value field or, for a blank, of the format), and each shared string's units.
 use Prim.Native.Nat.{ℕ, _+_, _-_, max}
 use mathlib.Core.List.{List, [], _∷_, map}
 use lib.ListN.{length, take, drop}
@@ -78,6 +78,8 @@ pub record CellReading : Type 0 where
   pub value : CellValue
   pub tokens : List ℕ
   pub trailing : List ℕ
+  pub format : ℕ
+  pub place : ℕ
 
 pub record SheetReading : Type 0 where
   pub name : List ℕ
@@ -91,7 +93,15 @@ pub record Reading : Type 0 where
   pub strings : List (List ℕ)
 
 abbrev pub cellReading : List ℕ → Cell → CellReading
-cellReading s c = record { row = c .row; column = c .column; value = c .value; tokens = tokensOf s c; trailing = trailingBytes s c }
+cellReading s c = record {
+  row = c .row;
+  column = c .column;
+  value = c .value;
+  tokens = tokensOf s c;
+  trailing = trailingBytes s c;
+  format = c .format;
+  place = c .field;
+}
 
 abbrev pub sheetReading : List ℕ → Sheet → SheetReading
 sheetReading s x = record {

@@ -108,9 +108,9 @@ module _ {s s′ : List ℕ} {a t z e k : ℕ} {v : CellValue} (c : Corrected s 
 
     -- any other reads the same
     pub other-read : (d .field ≡ p₀ → ⊥) → cellReading s′ (write d) ≡ cellReading s d
-    other-read n = ap (cellReading s′) (written-other p₀ v d n) ∙ (λ y. record { row = d .row; column = d .column; value = d .value; tokens = tokens-of y; trailing = trailing-of y })
+    other-read n = ap (cellReading s′) (written-other p₀ v d n) ∙ (λ y. record { row = d .row; column = d .column; value = d .value; tokens = tokens-of y; trailing = trailing-of y; format = d .format; place = d .field })
 
     -- and that one has the new value
     pub here-read : d .field ≡ p₀ → cellReading s′ (write d) ≡ withValue v (cellReading s d)
     unfolding tokensOf trailingBytes
-    here-read q = ap (cellReading s′) (written-here p₀ v d q) ∙ (λ y. record { row = d .row; column = d .column; value = v; tokens = tokens-of y; trailing = trailing-of y })
+    here-read q = ap (cellReading s′) (written-here p₀ v d q) ∙ (λ y. record { row = d .row; column = d .column; value = v; tokens = tokens-of y; trailing = trailing-of y; format = d .format; place = d .field })

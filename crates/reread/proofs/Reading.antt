@@ -33,7 +33,7 @@ use Rattle.reread.specs.Parts.{fieldFrom, Corrected, written, addressed,
 use Rattle.reread.proofs.Lists.{every-both, map-same, nth-one, on-nth}
 use Rattle.reread.proofs.Fields.{inside, same-before}
 use Rattle.reread.proofs.Found.{field-within, at-every, has-at, sheet-cells, stands, found, reach-found, reach-globals, cell-of, field-is, corrected}
-use Rattle.reread.proofs.Cells.{sheet-read, sheet-rows, here-is, here-read, other-read}
+use Rattle.reread.proofs.Cells.{sheet-written, sheet-read, sheet-rows, here-is, here-read, other-read}
 use Rattle.reread.proofs.Names.{name-kept, width-kept, type-kept}
 use Rattle.reread.proofs.Strings.{globals-tabled, strings-kept}
 use Rattle.reread.proofs.Values.{value-one, value-new}
@@ -73,6 +73,10 @@ module _ {s : List ℕ} {n row column : ℕ} {v : NewValue} {f : Field} {p b : �
 
     near-sheet : Beside s a e (x .position)
     near-sheet = near (chain-trans (reach-globals r) (tops-reach s (g .unique) (stand .tops)))
+
+    -- its cells are the old ones, with the new value where that value field is
+    pub listed-written : listedOf s′ x ≡ map (written p₀ (newOf v)) (listedOf s x)
+    listed-written = sheet-written c g x stand near-sheet
 
     -- name, width, type and row count stay
     sheet-by : (l : List CellReading) → map (cellReading s′) (listedOf s′ x) ≡ l

@@ -48,14 +48,13 @@ fn with(
 fn list_ours(stream: &[u8]) -> u64 {
     station::cells(stream, 0).map_or(0, |cells| {
         cells.fold(0, |sum, cell| {
-            let field = if cell.is_blank() { 0 } else { cell.field() };
             with(
                 sum,
                 cell.row(),
                 cell.column(),
                 cell.format(),
                 cell.bits(),
-                field,
+                cell.field(),
                 cell.tokens().len(),
                 cell.trailing().len(),
             )
@@ -67,18 +66,12 @@ fn list_theirs(stream: &[u8]) -> u64 {
     use second_reader::{FormulaResult, Value};
     let mut sum = 0;
     let listed = second_reader::list_cells(stream, 0, |cell| {
-        let (bits, field) = match cell.value {
-            Value::Blank => (0, 0),
-            Value::Number(bits) => (bits, cell.value_field.start),
-            Value::Text(index) => (index.into(), cell.value_field.start),
-            Value::Truth(byte) | Value::Error(byte) => (byte.into(), cell.value_field.start),
-            Value::Formula(FormulaResult::Number(bits)) => (bits, cell.value_field.start),
-            Value::Formula(FormulaResult::Truth(byte) | FormulaResult::Error(byte)) => {
-                (byte.into(), cell.value_field.start)
-            }
-            Value::Formula(FormulaResult::Text | FormulaResult::Empty) => {
-                (0, cell.value_field.start)
-            }
+        let bits = match cell.value {
+            Value::Number(bits) | Value::Formula(FormulaResult::Number(bits)) => bits,
+            Value::Text(index) => index.into(),
+            Value::Truth(byte) | Value::Error(byte) => byte.into(),
+            Value::Formula(FormulaResult::Truth(byte) | FormulaResult::Error(byte)) => byte.into(),
+            Value::Blank | Value::Formula(FormulaResult::Text | FormulaResult::Empty) => 0,
         };
         sum = with(
             sum,
@@ -86,7 +79,7 @@ fn list_theirs(stream: &[u8]) -> u64 {
             cell.column,
             cell.format,
             bits,
-            field,
+            cell.value_field.start,
             cell.tokens.len(),
             cell.trailing.len(),
         );

@@ -173,6 +173,12 @@ impl Comparison {
             other,
         ));
         self.count(&one);
+        if one.is_ok() {
+            // every cell of every sheet, the corrected one too
+            let before = formats_and_places(stream);
+            let after = formats_and_places(&changed);
+            self.hold("formats and places", seed, after, before);
+        }
         self.hold("correct", seed, one, two);
         self.hold("corrected bytes", seed, changed == changed_too, true);
     }
@@ -189,14 +195,22 @@ impl Comparison {
     }
 }
 
-/// A cell in one form: row, column, format, value, and where the value, a formula's tokens and the bytes after them stand, which a blank and other
-/// cells don't have.
+/// Row, column, format and place of each cell of each sheet, as the library lists them.
+fn formats_and_places(stream: &[u8]) -> Outcome<Vec<(u16, u16, u16, usize)>> {
+    let of_cell = |cell: station::Cell| (cell.row(), cell.column(), cell.format(), cell.field());
+    let workbook = ours(station::check(stream))?;
+    let cells = workbook.sheets().flat_map(|sheet| sheet.cells());
+    Ok(cells.map(of_cell).collect())
+}
+
+/// A cell in one form: row, column, format, value, the place of its value field (of a blank, of its format), and where a formula's tokens and the bytes
+/// after them stand, which other cells don't have.
 type Plain = (
     u16,
     u16,
     u16,
     second_reader::Value,
-    Option<usize>,
+    usize,
     Option<(Range<usize>, Range<usize>)>,
 );
 
@@ -224,7 +238,6 @@ fn plain(
     field: usize,
     parts: (Range<usize>, Range<usize>),
 ) -> Plain {
-    let field = (value != second_reader::Value::Blank).then_some(field);
     let parts = matches!(value, second_reader::Value::Formula(_)).then_some(parts);
     (row, column, format, value, field, parts)
 }

@@ -46,7 +46,7 @@ pub struct Cell {
     pub row: u16,
     /// Its column, at most 255.
     pub column: u16,
-    /// Its format.
+    /// The index of its format, as it stands.
     pub format: u16,
     /// What it holds.
     pub value: Value,
@@ -56,7 +56,8 @@ pub struct Cell {
     /// empty at 0 for others.
     pub trailing: Range<usize>,
     /// Where the value stands in the stream: an f64, its own RK word, an index,
-    /// a formula result or two bytes of truth or error. Empty at 0 for a blank.
+    /// a formula result or two bytes of truth or error. For a blank, where its
+    /// format stands.
     pub value_field: Range<usize>,
 }
 
@@ -137,10 +138,7 @@ fn column(low: u8, high: u8) -> Result<u16, u8> {
 #[inline(always)]
 fn blank(record: &Record<'_>) -> Result<Cell, u8> {
     let body = sized::<6>(record)?;
-    Ok(Cell {
-        value_field: 0..0,
-        ..cell(record, &body, Value::Blank, 6..6)?
-    })
+    cell(record, &body, Value::Blank, 4..6)
 }
 
 #[inline(always)]
@@ -264,6 +262,7 @@ fn each_rk<F: FnMut(Cell)>(record: &Record<'_>, mut take: F) -> Result<(), u8> {
 #[inline]
 fn each_blank<F: FnMut(Cell)>(record: &Record<'_>, mut take: F) -> Result<(), u8> {
     let (row, first, fields) = multiple::<2>(record)?;
+    let mut field_at = record.body_at() + 4;
     for (column, &format) in (first..).zip(fields) {
         take(Cell {
             row,
@@ -272,8 +271,9 @@ fn each_blank<F: FnMut(Cell)>(record: &Record<'_>, mut take: F) -> Result<(), u8
             value: Value::Blank,
             tokens: 0..0,
             trailing: 0..0,
-            value_field: 0..0,
+            value_field: field_at..field_at + 2,
         });
+        field_at += 2;
     }
     Ok(())
 }

@@ -1050,14 +1050,13 @@ fn names_formats_and_fields_are_where_they_stand() {
         .iter()
         .map(|cell| cell.value_field.clone())
         .collect();
-    assert!(blank < formula);
     assert_eq!(
         fields,
         [
             number + 10..number + 18,
             packed + 10..packed + 14,
             packed + 16..packed + 20,
-            0..0,
+            blank + 8..blank + 10,
             formula + 10..formula + 18,
         ]
     );

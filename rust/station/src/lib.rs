@@ -414,7 +414,7 @@ impl Cell {
         (self.0[0] >> 16) as u16
     }
 
-    /// The index of its format.
+    /// The index of its format, as it stands in the record: it is judged against nothing.
     pub fn format(&self) -> u16 {
         (self.0[0] >> 32) as u16
     }
@@ -446,7 +446,8 @@ impl Cell {
         }
     }
 
-    /// Where the value field starts; of a blank, its format.
+    /// Its place: the offset in the stream at which its value field starts; for a blank, its format. A correction leaves the format and the place of every cell as
+    /// they were.
     pub fn field(&self) -> usize {
         self.0[2] as usize
     }

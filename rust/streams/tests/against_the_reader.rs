@@ -23,6 +23,15 @@ fn value_of(content: &Content) -> Value {
     }
 }
 
+/// The format that stands at a blank's place, or before another cell's.
+fn format_at_place(stream: &[u8], cell: &reader::Cell) -> u16 {
+    let place = match cell.value {
+        Value::Blank => cell.value_field.start,
+        _ => cell.value_field.start - 2,
+    };
+    u16::from_le_bytes([stream[place], stream[place + 1]])
+}
+
 fn assert_same(stream: &[u8], reading: &Reading, contents: &Contents) {
     assert_eq!(reading.strings, contents.strings);
     assert_eq!(reading.sheets.len(), contents.sheets.len());
@@ -36,6 +45,7 @@ fn assert_same(stream: &[u8], reading: &Reading, contents: &Contents) {
         for (cell, made) in sheet.cells.iter().zip(&made.cells) {
             let address = (cell.row, cell.column, cell.format);
             assert_eq!(address, (made.row, made.column, made.format));
+            assert_eq!(format_at_place(stream, cell), made.format);
             assert_eq!(cell.value, value_of(&made.value));
             let (tokens, trailing) = match &made.value {
                 Content::Formula(_, tokens, trailing) => (&tokens[..], &trailing[..]),

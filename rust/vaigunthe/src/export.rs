@@ -68,6 +68,14 @@ pub const EXPORT: Command = Command {
             "with --csv and --json: give addresses like B12, as cell, in the place of row and column",
         ),
         Setting::alone(
+            "--dates",
+            "write numbers as dates and times where their cells' formats show them so, and with --csv and --json the numbers themselves as serial; dates are not proved",
+        ),
+        Setting::alone(
+            "--places",
+            "with --csv and --json: add the index of each cell's format, as format, and the offset of its value field in FILE, for a blank that of its format, as offset",
+        ),
+        Setting::alone(
             "--bom",
             "with --csv and --grid: start with a byte order mark, by which Excel knows UTF-8",
         ),
@@ -93,6 +101,14 @@ pub const EXPORT: Command = Command {
             "vaigunthe export session.bin --json --output session.json",
             "everything, formulas too",
         ),
+        (
+            "vaigunthe export session.bin --grid --dates --output session.csv",
+            "the one worksheet as a table, its dates as dates",
+        ),
+        (
+            "vaigunthe export session.bin --csv --a1 --places",
+            "where in the stream each value stands",
+        ),
     ],
     details: "\
 Cell by cell, each cell has a kind, and a formula is told apart by it:
@@ -114,6 +130,18 @@ at one address counts. A grid has as many fields in each line as its widest row
 needs; blanks add none. Without --sheet the workbook must have one worksheet.
 All grids of one workbook may have 268,435,456 fields together.
 
+With --dates a number is written by ISO 8601 where its cell's format is one of
+dates, times or elapsed times: 2004-02-29, 13:05:00, 2004-02-29T13:05:00,
+PT36H5M0S. Its kind stays. Cell by cell the number itself follows as its serial;
+what is no date has an empty field in CSV and no serial in JSON. A grid has the
+dates and no serials. Negative numbers stay numbers, and so do those after the
+year 9999 and those whose format is damaged. 1900-01-00 and 1900-02-29 are
+Excel's days 0 and 60. A workbook without a DATEMODE record counts its days from
+1900; where the record is damaged, or two disagree, nothing is a date.
+
+Dates are no part of what is proved. The proved library gives each cell's number
+and the index of its format; what date that is, this tool alone says.
+
 In names of files all but letters, digits, spaces and -_. becomes _; the number
 in front keeps them apart. FILE itself is never written over.
 
@@ -131,6 +159,8 @@ struct Listing {
     blanks: bool,
     /// Addresses like B12.
     letters: bool,
+    /// The format of each cell, and where its value field stands.
+    places: bool,
 }
 
 /// What is written.
@@ -145,19 +175,28 @@ impl Form {
         let listing = Listing {
             blanks: !arguments.has("--no-blanks"),
             letters: arguments.has("--a1"),
+            places: arguments.has("--places"),
         };
         let asked = ["--csv", "--json", "--grid"].map(|name| arguments.has(name));
-        let (form, misplaced) = match asked {
-            [true, false, false] => (Form::Csv(listing), &["--output-dir"][..]),
-            [false, true, false] => (Form::Json(listing), &["--output-dir", "--bom"][..]),
-            [false, false, true] => (Form::Grid, &["--no-blanks", "--a1"][..]),
+        let (form, called, misplaced) = match asked {
+            [true, false, false] => (Form::Csv(listing), "--csv", &["--output-dir"][..]),
+            [false, true, false] => (
+                Form::Json(listing),
+                "--json",
+                &["--output-dir", "--bom"][..],
+            ),
+            [false, false, true] => (
+                Form::Grid,
+                "--grid",
+                &["--no-blanks", "--a1", "--places"][..],
+            ),
             _ => {
                 let message = "one of --grid, --csv and --json is needed";
                 return Err(Failure::usage(message));
             }
         };
         match misplaced.iter().find(|name| arguments.has(name)) {
-            Some(name) => Err(Failure::usage(format!("{name} doesn't go with this form"))),
+            Some(name) => Err(Failure::usage(format!("{name} doesn't go with {called}"))),
             None => Ok(form),
         }
     }
@@ -219,6 +258,9 @@ fn run(arguments: &Arguments, out: &mut Output) -> Result<Status, Failure> {
         let one = book.one_worksheet();
         one.map_err(|message| stream.failure(message))?;
     }
+    if arguments.has("--dates") {
+        book.show_dates();
+    }
     match target {
         Target::Output => {
             out.write_all(mark.as_bytes())?;
@@ -234,6 +276,7 @@ fn run(arguments: &Arguments, out: &mut Output) -> Result<Status, Failure> {
     if let Form::Grid = form {
         book.tell_unread(&stream);
     }
+    book.tell_system(&stream);
     Ok(Status::Answered)
 }
 

@@ -4,6 +4,7 @@ use super::strings::SharedStrings;
 use crate::errors;
 use crate::input::Stream;
 use crate::wanted::Wanted;
+use dates::{Formats, System};
 use station::{Cell, FormulaResult, Refusal, Sheet, SheetKind, Value, Workbook};
 
 pub struct Book<'a> {
@@ -12,6 +13,8 @@ pub struct Book<'a> {
     strings: SharedStrings,
     /// The one sheet that is asked for, where not all are.
     only: Option<usize>,
+    /// The number formats, where dates are asked for.
+    dates: Option<Formats>,
 }
 
 /// What a cell shows.
@@ -19,6 +22,8 @@ pub enum Shown<'a> {
     /// A blank, or the text of a formula, which its record doesn't hold.
     Nothing,
     Number(u64),
+    /// A number by ISO 8601, and the number.
+    Date(String, u64),
     Text(&'a [u16]),
     Truth(bool),
     Error(&'static str),
@@ -40,6 +45,7 @@ impl<'a> Book<'a> {
             workbook,
             strings: SharedStrings::of(&workbook),
             only,
+            dates: None,
         })
     }
 
@@ -78,15 +84,26 @@ impl<'a> Book<'a> {
         }
     }
 
-    /// The kind of a cell, and what it shows.
-    pub fn shown(&self, value: Value) -> (&'static str, Shown<'_>) {
+    /// From here on numbers are dates where their formats are. A workbook that doesn't say from which day it counts does so from 1900.
+    pub fn show_dates(&mut self) {
+        self.dates = Some(Formats::read_or(self.stream, System::From1900));
+    }
+
+    pub fn shows_dates(&self) -> bool {
+        self.dates.is_some()
+    }
+
+    /// The kind of a cell of this format and value, and what it shows.
+    pub fn shown(&self, format: u16, value: Value) -> (&'static str, Shown<'_>) {
         match value {
             Value::Blank => ("blank", Shown::Nothing),
-            Value::Number(bits) => ("number", Shown::Number(bits)),
+            Value::Number(bits) => ("number", self.number(format, bits)),
             Value::Text(index) => ("text", Shown::Text(self.strings.get(index))),
             Value::Truth(truth) => ("truth", Shown::Truth(truth != 0)),
             Value::Error(code) => ("error", Shown::Error(errors::name(code))),
-            Value::Formula(FormulaResult::Number(bits)) => ("formula number", Shown::Number(bits)),
+            Value::Formula(FormulaResult::Number(bits)) => {
+                ("formula number", self.number(format, bits))
+            }
             Value::Formula(FormulaResult::Text) => ("formula text", Shown::Nothing),
             Value::Formula(FormulaResult::Truth(truth)) => {
                 ("formula truth", Shown::Truth(truth != 0))
@@ -95,6 +112,18 @@ impl<'a> Book<'a> {
                 ("formula error", Shown::Error(errors::name(code)))
             }
             Value::Formula(FormulaResult::Empty) => ("formula empty", Shown::Text(&[])),
+        }
+    }
+
+    fn number(&self, format: u16, bits: u64) -> Shown<'_> {
+        let serial = f64::from_bits(bits);
+        let date = self
+            .dates
+            .as_ref()
+            .and_then(|dates| dates.show(format, serial));
+        match date {
+            Some(date) => Shown::Date(date, bits),
+            None => Shown::Number(bits),
         }
     }
 
@@ -115,6 +144,23 @@ impl<'a> Book<'a> {
             stream.note(format_args!(
                 "formulas whose result is a text: {count}; these texts are not read, and their fields are empty"
             ));
+        }
+    }
+
+    /// Says where dates hang on a day that the workbook doesn't name, and where there are none for want of it.
+    pub fn tell_system(&self, stream: &Stream<'_>) {
+        let Some(dates) = &self.dates else {
+            return;
+        };
+        let mut cells = self.sheets().flat_map(|(_, sheet)| sheet.cells());
+        match (Formats::read(self.stream).system(), dates.system()) {
+            (None, None) => stream.note(
+                "the DATEMODE record is damaged, or there are two that disagree: no number is shown as a date",
+            ),
+            (None, Some(_)) if cells.any(|cell| dates.show_cell(&cell).is_some()) => {
+                stream.note("there is no DATEMODE record: days are counted from 1900");
+            }
+            _ => {}
         }
     }
 }

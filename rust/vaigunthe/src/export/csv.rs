@@ -13,14 +13,19 @@ pub fn write<W: Write>(book: &Book<'_>, listing: Listing, out: &mut W) -> io::Re
     } else {
         "row,column"
     };
-    write!(out, "sheet,sheet_name,{address},kind,value\r\n")?;
+    let serial = if book.shows_dates() { ",serial" } else { "" };
+    let places = if listing.places { ",format,offset" } else { "" };
+    write!(
+        out,
+        "sheet,sheet_name,{address},kind,value{serial}{places}\r\n"
+    )?;
     for (number, sheet) in book.sheets() {
         let name = field(&sheet.name_units().collect::<Vec<_>>());
         for cell in sheet.cells() {
             if cell.is_blank() && !listing.blanks {
                 continue;
             }
-            let (kind, shown) = book.shown(cell.value());
+            let (kind, shown) = book.shown(cell.format(), cell.value());
             match listing.letters {
                 true => write!(out, "{number},{name},{},{kind},", Address::of(&cell))?,
                 false => write!(
@@ -31,6 +36,14 @@ pub fn write<W: Write>(book: &Book<'_>, listing: Listing, out: &mut W) -> io::Re
                 )?,
             }
             write_shown(&shown, out)?;
+            match shown {
+                Shown::Date(_, bits) => write!(out, ",{}", Number(bits))?,
+                _ if book.shows_dates() => out.write_all(b",")?,
+                _ => {}
+            }
+            if listing.places {
+                write!(out, ",{},{}", cell.format(), cell.field())?;
+            }
             out.write_all(b"\r\n")?;
         }
     }
@@ -42,6 +55,7 @@ pub fn write_shown<W: Write>(shown: &Shown<'_>, out: &mut W) -> io::Result<()> {
     match *shown {
         Shown::Nothing => Ok(()),
         Shown::Number(bits) => write!(out, "{}", Number(bits)),
+        Shown::Date(ref date, _) => out.write_all(date.as_bytes()),
         Shown::Text(units) => out.write_all(field(units).as_bytes()),
         Shown::Truth(truth) => write!(out, "{truth}"),
         Shown::Error(name) => out.write_all(name.as_bytes()),

@@ -6,9 +6,11 @@ use station::{Sheet, Value};
 use std::io::{self, Write};
 
 /// A cell with its place. There are as many of these as there are cells, however far apart they lie.
+#[derive(Clone, Copy)]
 struct Placed {
     row: u16,
     column: u16,
+    format: u16,
     value: Value,
 }
 
@@ -58,9 +60,15 @@ impl<'b, 'a> Grid<'b, 'a> {
         let mut values = Addresses::none();
         sheet.cells().for_each(|cell| {
             let (row, column, value) = (cell.row(), cell.column(), cell.value());
+            let format = cell.format();
             let covers = values.put(row, column, value != Value::Blank);
             if covers || value != Value::Blank {
-                cells.push(Placed { row, column, value });
+                cells.push(Placed {
+                    row,
+                    column,
+                    format,
+                    value,
+                });
             }
         });
         let place = |cell: &Placed| (cell.row, cell.column);
@@ -69,7 +77,7 @@ impl<'b, 'a> Grid<'b, 'a> {
         cells.dedup_by(|later, kept| {
             let same = place(later) == place(kept);
             if same {
-                kept.value = later.value;
+                *kept = *later;
             }
             same
         });
@@ -102,7 +110,7 @@ impl<'b, 'a> Grid<'b, 'a> {
             let next = usize::from(cell.column);
             out.write_all(&COMMAS[..next - column])?;
             column = next;
-            let (_, shown) = self.book.shown(cell.value);
+            let (_, shown) = self.book.shown(cell.format, cell.value);
             self.write_field(&shown, out)?;
         }
         if cells.is_empty() {

@@ -51,7 +51,7 @@ fn write_cell<W: Write>(
     cell: &Cell,
     out: &mut W,
 ) -> io::Result<()> {
-    let (kind, shown) = book.shown(cell.value());
+    let (kind, shown) = book.shown(cell.format(), cell.value());
     match listing.letters {
         true => write!(out, "{{\"cell\":\"{}\"", Address::of(cell))?,
         false => {
@@ -61,6 +61,13 @@ fn write_cell<W: Write>(
     }
     write!(out, ",\"kind\":\"{kind}\",\"value\":")?;
     write_value(&shown, out)?;
+    if let Shown::Date(_, bits) = shown {
+        write!(out, ",\"serial\":{}", Number(bits))?;
+    }
+    if listing.places {
+        let (format, offset) = (cell.format(), cell.field());
+        write!(out, ",\"format\":{format},\"offset\":{offset}")?;
+    }
     if let Some(tokens) = book.tokens(cell) {
         write!(out, ",\"tokens\":\"")?;
         for byte in tokens {
@@ -76,6 +83,7 @@ fn write_value<W: Write>(shown: &Shown<'_>, out: &mut W) -> io::Result<()> {
         Shown::Nothing => write!(out, "null"),
         Shown::Number(bits) if Number(bits).is_decimal() => write!(out, "{}", Number(bits)),
         Shown::Number(bits) => write!(out, "\"{}\"", Number(bits)),
+        Shown::Date(ref date, _) => write!(out, "\"{date}\""),
         Shown::Text(units) => write!(out, "{}", InJson(units)),
         Shown::Truth(truth) => write!(out, "{truth}"),
         Shown::Error(name) => write!(out, "\"{name}\""),

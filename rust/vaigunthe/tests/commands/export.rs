@@ -227,12 +227,20 @@ fn one_format_is_needed() {
     run(words!["export", file, "--csv=yes"]).fails("no value");
     run(words!["export", file, "--csv", "--sheet"]).fails("--sheet needs");
     run(words!["export", file, "--csv", "--sheet", ""]).fails("--sheet");
-    let misplaced: [(&str, &str); 7] = [
-        ("--grid --a1", "--a1 doesn't go"),
-        ("--grid --no-blanks", "--no-blanks doesn't go"),
-        ("--json --bom", "--bom doesn't go"),
-        ("--csv --output-dir d", "--output-dir doesn't go"),
-        ("--json --output-dir d", "--output-dir doesn't go"),
+    let misplaced: [(&str, &str); 9] = [
+        ("--grid --a1", "--a1 doesn't go with --grid"),
+        ("--grid --no-blanks", "--no-blanks doesn't go with --grid"),
+        ("--grid --places", "--places doesn't go with --grid"),
+        (
+            "--places --dates --grid --output-dir d",
+            "--places doesn't go with --grid",
+        ),
+        ("--json --bom", "--bom doesn't go with --json"),
+        ("--csv --output-dir d", "--output-dir doesn't go with --csv"),
+        (
+            "--json --output-dir d",
+            "--output-dir doesn't go with --json",
+        ),
         (
             "--grid --output-dir d --sheet 0",
             "with --sheet use --output",

@@ -8,7 +8,7 @@ pub fn units(text: &str) -> Vec<u16> {
     text.encode_utf16().collect()
 }
 
-fn record(kind: u16, body: &[u8]) -> Vec<u8> {
+pub fn record(kind: u16, body: &[u8]) -> Vec<u8> {
     let size = u16::try_from(body.len()).expect("a body that fits");
     [&kind.to_le_bytes(), &size.to_le_bytes(), body].concat()
 }
@@ -54,11 +54,16 @@ pub struct Sheet {
 
 /// A workbook with these strings and sheets.
 pub fn book(strings: &[Vec<u16>], sheets: &[Sheet]) -> Vec<u8> {
-    let table = table(strings);
+    book_of(&[table(strings)], sheets)
+}
+
+/// A workbook with these records in its globals, and these sheets.
+pub fn book_of(globals: &[Vec<u8>], sheets: &[Sheet]) -> Vec<u8> {
+    let globals = globals.concat();
     let list: usize = sheets.iter().map(|sheet| boundsheet(0, sheet).len()).sum();
-    let mut position = bof(5).len() + table.len() + list + end().len();
+    let mut position = bof(5).len() + globals.len() + list + end().len();
     let mut stream = bof(5);
-    stream.extend(table);
+    stream.extend(globals);
     let mut bodies = Vec::new();
     for sheet in sheets {
         stream.extend(boundsheet(position, sheet));
@@ -80,6 +85,31 @@ pub fn one(strings: &[Vec<u16>], records: Vec<Vec<u8>>) -> Vec<u8> {
         records,
     };
     book(strings, &[sheet])
+}
+
+/// 0 counts days from 1900, 1 from 1904.
+pub fn datemode(system: u16) -> Vec<u8> {
+    record(0x0022, &system.to_le_bytes())
+}
+
+/// A number format of the workbook's own.
+pub fn number_format(index: u16, text: &str) -> Vec<u8> {
+    let size = text.len() as u16;
+    let head = [index, size].map(u16::to_le_bytes).concat();
+    record(0x041E, &[&head[..], &[0], text.as_bytes()].concat())
+}
+
+/// A cell format, by the number format that it names.
+pub fn cell_format(index: u16) -> Vec<u8> {
+    let mut body = vec![0; 20];
+    body[2..4].copy_from_slice(&index.to_le_bytes());
+    record(0x00E0, &body)
+}
+
+/// The same cell with this cell format.
+pub fn in_format(format: u16, mut cell: Vec<u8>) -> Vec<u8> {
+    cell[8..10].copy_from_slice(&format.to_le_bytes());
+    cell
 }
 
 fn cell(kind: u16, row: u16, column: u16, rest: &[u8]) -> Vec<u8> {

@@ -4,6 +4,7 @@
 mod check;
 mod completions;
 mod correct;
+mod dates;
 mod export;
 mod fetch;
 mod grid;

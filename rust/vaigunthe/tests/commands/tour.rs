@@ -30,10 +30,9 @@ fn prints_what_the_readme_says() {
     let readme = Path::new(env!("CARGO_MANIFEST_DIR")).join("../../README.md");
     let readme = fs::read_to_string(readme).expect("the README");
     let folder = Folder::new();
-    folder.put(
-        "session.bin",
-        &fs::read(case("cells.in")).expect("the sample"),
-    );
+    for (name, sample) in [("session.bin", "cells.in"), ("dated.bin", "dates.in")] {
+        folder.put(name, &fs::read(case(sample)).expect("the sample"));
+    }
     let steps = tour(&readme);
     assert!(steps.len() >= 10, "only {} commands", steps.len());
     for (words, wanted) in steps {

@@ -1,0 +1,30 @@
+-- What a granted correction leaves: the check's answer, the sheets, and all of every cell but its value. Assumes nothing.
+use Prim.Native.Nat.{ℕ}
+use mathlib.Core.Path.{_≡_, refl, sym, ap, ap₂, _∙_}
+use mathlib.Core.List.{List, [], _∷_, map}
+use lib.Dec.{eqb}
+use Rattle.walk.proofs.Choice.{pick-any}
+use Rattle.value.specs.declared.CellValue.{CellValue}
+use Rattle.cell.specs.declared.Cell.{Cell}
+use Rattle.change.specs.Change.{newOf}
+use Rattle.upheld.proofs.Granted.{granted}
+use Rattle.upheld.proofs.Upheld.{upheld, sheets-stay}
+use Rattle.reread.specs.Parts.{written}
+use Rattle.reread.proofs.Reading.{listed-written}
+use Rattle.reading.specs.Reading.{listedOf}
+use Rattle.fields.specs.Fields.{Frame, frameOf, AllLeft}
+
+frames-written : (p : ℕ) (v : CellValue) (l : List Cell) → map frameOf (map (written p v) l) ≡ map frameOf l
+unfolding written
+frames-written p v [] = refl
+frames-written p v (c ∷ l) =
+    ap₂ (λ (x : Frame) (y : List Frame). x ∷ y) (pick-any (λ (d : Cell). frameOf d ≡ frameOf c) (eqb (c .field) p) refl refl) (frames-written p v l)
+
+pub all-left : AllLeft
+all-left s n row column v f p b held h =
+    let r = granted s n row column v f p b h in
+    record {
+      checked = upheld s n row column v f p b held h;
+      sheets = sym (sheets-stay s n row column v f p b held r);
+      cells = λ m x i. ap (map frameOf) (listed-written r held m x i) ∙ frames-written _ (newOf v) (listedOf s x);
+    }
