@@ -1,4 +1,4 @@
-/* The five questions about a workbook stream, for C. Link libstation (make install; pkg-config station), or the archive itself,
+/* The questions about a workbook stream, for C. Link libstation (make install; pkg-config station), or the archive itself,
  * target/staticlib/libstation_c.a (rt staticlib station_c).
  *
  * Answers. Every function is defined for every argument: any bytes, any place, any number. A refusal's number is 0 where there is
@@ -58,6 +58,7 @@ enum station_refusal {
     STATION_AMBIGUOUS = 16,       /* correction: two or more cells have the address; offset 0 */
     STATION_WRONG_KIND = 17,      /* correction: the cell's kind does not take this kind of value; offset 0 */
     STATION_DOES_NOT_FIT = 18,    /* correction: the value does not fit the cell; offset 0 */
+    STATION_NOT_A_SESSION = 20,   /* the stream is outside the profile of a sensor's session; offset 0 where no cell is at fault */
 };
 
 struct station_check { uint8_t number; size_t offset; size_t sheets; uint32_t strings; size_t sheet; size_t segment; size_t at; size_t end; };
@@ -107,6 +108,25 @@ struct station_filled station_next_cells(const uint8_t *stream, size_t length, s
 /* correct: one cell's value field. kind 0 takes number, 1 index (a text), 2 byte (a truth), any other byte (an error code) */
 struct station_answer station_correct(uint8_t *stream, size_t length, uint32_t sheet, uint32_t row, uint32_t column,
                                       uint8_t kind, double number, uint32_t index, uint8_t byte);
+
+/* profile: whether a stream is of the kind that the sensors write, with how many rows and columns (2, or 3 with the host's seconds); else
+ * 20 after any refusal of the check, at the record of the first cell at fault */
+struct station_profile { uint8_t number; size_t offset; uint32_t rows; uint32_t columns; };
+struct station_profile station_profile(const uint8_t *stream, size_t length);
+
+/* cadence: what lies between a row and the next; 11 if either is missing.
+ * kind is 0 refused, 1 a pause, 2 ticks and turns that elapsed and no cadence, 3 with a cadence, turns per minute rounded down */
+struct station_pair { uint8_t number; size_t offset; uint8_t kind; uint16_t ticks; uint16_t turns; uint32_t cadence; };
+struct station_pair station_cadence(const uint8_t *stream, size_t length, uint32_t row);
+
+/* the same for all rows, one pair after the other, with one check: where they start, then a step for each pair.
+ * A step takes the earlier row (ticks, turns, seconds), the place of the cells after it (at, part, level) and the columns; it gives the
+ * pair (kind, elapsed and turned, cadence; kind is 0 where the pairs have ended), its later row and the place after that. */
+struct station_pairs { uint8_t number; size_t offset; uint16_t ticks; uint16_t turns; uint32_t seconds; size_t at; uint16_t part; uint8_t level; uint32_t columns; };
+struct station_step { uint8_t kind; uint16_t elapsed; uint16_t turned; uint32_t cadence; uint16_t ticks; uint16_t turns; uint32_t seconds; size_t at; uint16_t part; uint8_t level; };
+struct station_pairs station_pairs(const uint8_t *stream, size_t length);
+struct station_step station_next_pair(const uint8_t *stream, size_t length, uint16_t ticks, uint16_t turns, uint32_t seconds, size_t at, uint16_t part,
+                                      uint8_t level, uint32_t columns);
 
 #ifdef __cplusplus
 }

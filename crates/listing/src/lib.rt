@@ -123,7 +123,8 @@ fn record_item(s: &[u8], v: Place, id: u16, size: usize, end: usize) -> Step
     }
 }
 
-fn cell_item(s: &[u8], v: Place) -> Step
+// One step from a place on: a cell, a record that is passed over, or the end.
+pub fn cell_item(s: &[u8], v: Place) -> Step
     ensures { λ r. ⌜ itemOf r ≡ cellItem (now (s .entry)) v ⌝ }
 {
     match record::header_at(s, v.at) {

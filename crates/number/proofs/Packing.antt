@@ -97,17 +97,17 @@ module _ (q s k : ℕ) (e : s + k ≡ 1074) where
   parts : 2 ^ s * 2 ^ k ≡ 2 ^ 1074
   parts = sym (pow-add 2 s k) ∙ ap (λ (y : ℕ). 2 ^ y) e
 
-  cut-div : q * 2 ^ k / 2 ^ 1074 ≡ q / 2 ^ s
+  pub cut-div : q * 2 ^ k / 2 ^ 1074 ≡ q / 2 ^ s
   cut-div = ap (λ (y : ℕ). q * 2 ^ k / y) (sym parts) ∙ mul-div-mul-right q (2 ^ s) (pow-pos k)
 
   -- nothing is cut off exactly where nothing is cut off the significand
-  cut-whole : q / 2 ^ s * 2 ^ s ≡ q → q * 2 ^ k % 2 ^ 1074 ≡ 0
+  pub cut-whole : q / 2 ^ s * 2 ^ s ≡ q → q * 2 ^ k % 2 ^ 1074 ≡ 0
   cut-whole h =
       ap (λ (y : ℕ). y * 2 ^ k % 2 ^ 1074) (sym h)
       ∙ ap (λ (y : ℕ). y % 2 ^ 1074) (mul-assoc (q / 2 ^ s) (2 ^ s) (2 ^ k) ∙ ap (λ (y : ℕ). q / 2 ^ s * y) parts)
       ∙ mul-mod-left (q / 2 ^ s) (2 ^ 1074)
 
-  whole-cut : q * 2 ^ k % 2 ^ 1074 ≡ 0 → q / 2 ^ s * 2 ^ s ≡ q
+  pub whole-cut : q * 2 ^ k % 2 ^ 1074 ≡ 0 → q / 2 ^ s * 2 ^ s ≡ q
   whole-cut h =
       eq-of-mul-eq-mul-right (2 ^ k) (pow-pos k) (q / 2 ^ s * 2 ^ s) q
       (mul-assoc (q / 2 ^ s) (2 ^ s) (2 ^ k)

@@ -1,4 +1,6 @@
 // The five questions as C functions. Each is defined for every argument; a refusal's number is 0 where there is none, and what isn't answered is 0.
+mod sessions;
+
 ghost use mathlib.Core.Path.{_≡_};
 ghost use Rattle.judge.specs.Judge.{judgeOf};
 ghost use Rattle.workbook.specs.Check.{checkedOf};

@@ -1,7 +1,7 @@
 //! The questions, and how each is answered.
 
 use crate::words::{bytes, number};
-use station::{Cell, Refusal};
+use station::{Cell, Pair, Refusal};
 use std::fmt::Write;
 
 /// A question: its name, the words after it, what it asks, and the answer to such words; none where they are not what it takes.
@@ -13,7 +13,7 @@ struct Question {
 }
 
 /// All of them.
-const QUESTIONS: [Question; 3] = [
+const QUESTIONS: [Question; 5] = [
     Question {
         name: "check",
         words: "S",
@@ -31,6 +31,18 @@ const QUESTIONS: [Question; 3] = [
         words: "S SHEET",
         asks: "the cells of a sheet, with format and place",
         answer: cells,
+    },
+    Question {
+        name: "profile",
+        words: "S",
+        asks: "whether the stream is a sensor's session",
+        answer: profile,
+    },
+    Question {
+        name: "cadence",
+        words: "S ROW",
+        asks: "what lies between a row of a session and the next",
+        answer: cadence,
     },
 ];
 
@@ -104,4 +116,30 @@ fn joined(cells: impl Iterator<Item = Cell>) -> String {
         line.push('-');
     }
     line
+}
+
+fn profile(words: &[&[u8]]) -> Option<String> {
+    let [stream] = words else { return None };
+    Some(settled(station::profile(&bytes(stream)?).map(|_| ())))
+}
+
+fn cadence(words: &[&[u8]]) -> Option<String> {
+    let [stream, row] = words else { return None };
+    let answer = station::cadence(&bytes(stream)?, number(row)?);
+    Some(answer.map_or_else(refused, between))
+}
+
+/// `pause`, or `elapsed` with ticks, turns and cadence, where `none` is no cadence.
+fn between(pair: Pair) -> String {
+    match pair {
+        Pair::Pause => "pause".to_string(),
+        Pair::Elapsed {
+            ticks,
+            turns,
+            cadence,
+        } => {
+            let cadence = cadence.map_or("none".to_string(), |cadence| cadence.to_string());
+            format!("elapsed {ticks} {turns} {cadence}")
+        }
+    }
 }

@@ -1,7 +1,7 @@
 //! ask as another reader meets it: a process that is given lines and answers with lines. What it must answer is written down after document 01, stored
 //! with the cases, or taken from the second reader.
 
-use second_reader::{Refusal, Value};
+use second_reader::{Between, Refusal, Value};
 use std::fs;
 use std::io::{BufRead, BufReader, Write};
 use std::path::{Path, PathBuf};
@@ -205,6 +205,65 @@ fn made_streams() {
     assert!(listed > 500, "only {listed} cells");
 }
 
+/// The stored ride: its pairs were reckoned by hand.
+#[test]
+fn a_ride() {
+    let cases = Path::new(env!("CARGO_MANIFEST_DIR")).join("../../cases");
+    let ride = hex(&fs::read(cases.join("ride.in")).expect("the ride"));
+    let mut questions = vec![format!("profile\t{ride}")];
+    questions.extend((0..9).map(|row| format!("cadence\t{ride}\t{row}")));
+    questions.extend(["profile\t-".to_string(), "cadence\t-\t0".to_string()]);
+    let wanted = [
+        "ok",
+        "elapsed 1024 1 60",
+        "elapsed 768 1 80",
+        "elapsed 0 0 none",
+        "elapsed 62208 48 47",
+        "elapsed 1024 2 120",
+        "pause",
+        "elapsed 1024 0 0",
+        "elapsed 1536 2 80",
+        "refused 11 at 0",
+        "refused 3 at 0",
+        "refused 3 at 0",
+    ];
+    assert_eq!(answers(&questions), wanted);
+}
+
+#[test]
+fn made_sessions() {
+    let made: Vec<_> = (0..1_000).map(streams::session).collect();
+    let mut questions = Vec::new();
+    let mut wanted = Vec::new();
+    for (seed, stream) in (0..).zip(&made) {
+        questions.push(format!("profile\t{}", hex(stream)));
+        let profile = second_reader::profile(stream);
+        wanted.push(profile.map_or_else(refused, |()| "ok".to_string()));
+        let row = streams::session_row(seed, stream);
+        questions.push(format!("cadence\t{}\t{row}", hex(stream)));
+        wanted.push(match second_reader::cadence(stream, row) {
+            Err(refusal) => refused(refusal),
+            Ok(Between::Pause) => "pause".to_string(),
+            Ok(Between::Elapsed {
+                ticks,
+                turns,
+                cadence: None,
+            }) => format!("elapsed {ticks} {turns} none"),
+            Ok(Between::Elapsed {
+                ticks,
+                turns,
+                cadence: Some(cadence),
+            }) => format!("elapsed {ticks} {turns} {cadence}"),
+        });
+    }
+    assert_eq!(answers(&questions), wanted);
+    for start in ["ok", "pause", "elapsed ", "refused 11 ", "refused 20 "] {
+        let met = wanted.iter().filter(|line| line.starts_with(start)).count();
+        assert!(met >= 10, "'{start}' was met {met} times");
+    }
+    assert!(wanted.iter().any(|line| line.ends_with(" none")));
+}
+
 /// Each gets its answer, and the lines after it theirs.
 #[test]
 fn lines_that_are_no_question() {
@@ -234,6 +293,14 @@ fn lines_that_are_no_question() {
         "cells\t-\t0x1",
         "cells\t-\t4294967296",
         "cells\t-\t0\t0",
+        "profile",
+        "profile\t",
+        "profile\t-\t0",
+        "cadence\t-",
+        "cadence\t-\t",
+        "cadence\t-\t-",
+        "cadence\t-\t4294967296",
+        "cadence\t-\t0\t0",
         "é\u{0}",
     ];
     let questions: Vec<_> = wrong
@@ -329,7 +396,13 @@ fn help_and_arguments() {
     let help = run("--help");
     assert_eq!(help.status.code(), Some(0));
     let help = String::from_utf8(help.stdout).expect("help in UTF-8");
-    for usage in ["check S ", "judge TOKENS TRAILING ", "cells S SHEET "] {
+    for usage in [
+        "check S ",
+        "judge TOKENS TRAILING ",
+        "cells S SHEET ",
+        "profile S ",
+        "cadence S ROW ",
+    ] {
         assert!(help.contains(usage), "{help}");
     }
     let wrong = run("session.bin");

@@ -1,6 +1,7 @@
 //! `compare [COUNT [FIRST]]`: asks the proved library and the second reader the same questions about made streams, formulas and corrections, one of
-//! each seed from FIRST (0) on. Answers, offsets, and every lent byte and unit before and after must agree. Prints how often each refusal was met; the
-//! exit status is 1 where there was a difference, or where a refusal was met fewer than a hundred times in a run of 100,000 seeds or more.
+//! each seed from FIRST (0) on, and about a made session of every second seed. Answers, offsets, and every lent byte and unit before and after must
+//! agree. Prints how often each refusal was met; the exit status is 1 where there was a difference, or where a refusal was met fewer than a hundred
+//! times in a run of 100,000 seeds or more.
 
 use std::fmt::Debug;
 use std::ops::Range;
@@ -8,7 +9,7 @@ use std::process::ExitCode;
 use std::time::Instant;
 
 /// Refusals by number; 0 counts the answers without one.
-type Counts = [u64; 19];
+type Counts = [u64; 21];
 
 /// Each refusal is to be met this often, in a run of so many seeds or more.
 const LEAST: u64 = 100;
@@ -183,6 +184,32 @@ impl Comparison {
         self.hold("corrected bytes", seed, changed == changed_too, true);
     }
 
+    /// The profile, every row's cadence, and the pairs one after the other.
+    fn session(&mut self, seed: u64, stream: &[u8]) {
+        let profile = ours(station::profile(stream)).map(|held| (held.rows, held.columns));
+        let other = theirs(second_reader::profile(stream)).map(|()| rows_and_columns(stream));
+        self.count(&profile);
+        self.hold("profile", seed, profile, other);
+        let mut pairs = Vec::new();
+        for row in 0..profile.map_or(0, |(rows, _)| rows.saturating_sub(1)) {
+            pairs.extend(self.cadence(seed, stream, row).ok());
+        }
+        let steps =
+            ours(station::pairs(stream)).map(|pairs| pairs.map(between).collect::<Vec<_>>());
+        self.hold("pairs", seed, steps, profile.map(|_| pairs));
+        let row = streams::session_row(seed, stream);
+        let asked = self.cadence(seed, stream, row);
+        self.count(&asked);
+    }
+
+    /// What lies between a row and the next.
+    fn cadence(&mut self, seed: u64, stream: &[u8], row: u32) -> Outcome<second_reader::Between> {
+        let one = ours(station::cadence(stream, row)).map(between);
+        let two = theirs(second_reader::cadence(stream, row));
+        self.hold("cadence", seed, one, two);
+        two
+    }
+
     fn all(&mut self, seed: u64) {
         let stream = streams::stream(seed);
         self.check(seed, &stream);
@@ -191,6 +218,9 @@ impl Comparison {
         self.judge(seed);
         for turn in 0..3 {
             self.correct(3 * seed + turn, &stream);
+        }
+        if seed.is_multiple_of(2) {
+            self.session(seed, &streams::session(seed));
         }
     }
 }
@@ -201,6 +231,31 @@ fn formats_and_places(stream: &[u8]) -> Outcome<Vec<(u16, u16, u16, usize)>> {
     let workbook = ours(station::check(stream))?;
     let cells = workbook.sheets().flat_map(|sheet| sheet.cells());
     Ok(cells.map(of_cell).collect())
+}
+
+/// The rows and columns of a session, by the cells that the second reader lists. One without cells has two columns.
+fn rows_and_columns(stream: &[u8]) -> (u32, u32) {
+    let (mut rows, mut columns) = (0, 2);
+    let listed = second_reader::list_cells(stream, 0, |cell| {
+        rows = u32::from(cell.row) + 1;
+        columns = columns.max(u32::from(cell.column) + 1);
+    });
+    listed.map_or((0, 0), |()| (rows, columns))
+}
+
+fn between(pair: station::Pair) -> second_reader::Between {
+    match pair {
+        station::Pair::Pause => second_reader::Between::Pause,
+        station::Pair::Elapsed {
+            ticks,
+            turns,
+            cadence,
+        } => second_reader::Between::Elapsed {
+            ticks: ticks.into(),
+            turns: turns.into(),
+            cadence,
+        },
+    }
 }
 
 /// A cell in one form: row, column, format, value, the place of its value field (of a blank, of its format), and where a formula's tokens and the bytes
@@ -271,7 +326,7 @@ fn main() -> ExitCode {
     let start = Instant::now();
     let mut comparison = Comparison {
         differences: 0,
-        counts: [0; 19],
+        counts: [0; 21],
     };
     let whole = count >= WHOLE;
     // at and over the greatest length, where two of three are over it
@@ -281,14 +336,11 @@ fn main() -> ExitCode {
     for seed in first..first + count {
         comparison.all(seed);
     }
-    for (number, met) in comparison.counts.iter().enumerate() {
+    println!("answered {}", comparison.counts[0]);
+    for (number, _) in station::meanings() {
         println!(
-            "{} {met}",
-            if number == 0 {
-                "answered".to_string()
-            } else {
-                format!("refused {number}")
-            }
+            "refused {number} {}",
+            comparison.counts[usize::from(number)]
         );
     }
     println!(
@@ -296,7 +348,8 @@ fn main() -> ExitCode {
         comparison.differences,
         start.elapsed().as_secs_f64()
     );
-    let rare = comparison.counts.iter().any(|&met| met < LEAST);
+    let met = |number: u8| comparison.counts[usize::from(number)];
+    let rare = station::meanings().any(|(number, _)| met(number) < LEAST) || met(0) < LEAST;
     if comparison.differences > 0 || (whole && rare) {
         return ExitCode::from(1);
     }

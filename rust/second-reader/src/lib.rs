@@ -22,6 +22,7 @@ mod print;
 mod records;
 mod refusal;
 mod rk;
+mod session;
 mod sheets;
 mod strings;
 mod survey;
@@ -33,6 +34,7 @@ pub use formula::judge;
 pub use print::{lines, print};
 pub use refusal::Refusal;
 pub use rk::{decode as decode_rk, pack as pack_rk};
+pub use session::{cadence, profile, Between};
 pub use sheets::SheetType;
 
 use std::ops::Range;

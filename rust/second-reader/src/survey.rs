@@ -82,11 +82,25 @@ impl<'a> Survey<'a> {
     /// past the sheet's number nothing is refused any more.
     #[inline]
     pub fn list<F: FnMut(&Cell)>(&self, sheet: usize, mut take: F) -> Result<(), Refusal> {
+        let unique = self.strings.unique();
+        self.each_record(sheet, |record| {
+            each_cell(record, unique, |cell| take(&cell))
+                .map(|_| ())
+                .map_err(|number| record.refuse(number))
+        })
+    }
+
+    /// Hands over the records that stand directly in a sheet, its cells among
+    /// them, up to the first that is refused.
+    #[inline]
+    pub fn each_record<F>(&self, sheet: usize, mut take: F) -> Result<(), Refusal>
+    where
+        F: FnMut(&Record<'a>) -> Result<(), Refusal>,
+    {
         let substream = self.substream(sheet)?;
         if substream.cells == 0 {
             return Ok(());
         }
-        let unique = self.strings.unique();
         let mut records = Records::from(self.stream, substream.first);
         let mut charts = 0u32;
         loop {
@@ -95,10 +109,7 @@ impl<'a> Survey<'a> {
                 kind::BOF => charts += 1,
                 kind::EOF if charts == 0 => return Ok(()),
                 kind::EOF => charts -= 1,
-                _ if charts == 0 => {
-                    each_cell(&record, unique, |cell| take(&cell))
-                        .map_err(|number| record.refuse(number))?;
-                }
+                _ if charts == 0 => take(&record)?,
                 _ => {}
             }
         }

@@ -33,6 +33,7 @@
 mod raw;
 
 use std::fmt;
+use std::iter::FusedIterator;
 use std::ops::Range;
 
 /// A refusal: its number in the table, and the offset at which it was given. Shown, it says what it means: `refused 5 at 20: the workbook is encrypted`.
@@ -52,9 +53,11 @@ impl Refusal {
 
     /// What its number means.
     pub fn meaning(&self) -> &'static str {
-        let place = usize::from(self.number).checked_sub(1);
-        let known = place.and_then(|place| MEANINGS.get(place));
-        known.unwrap_or(&"a refusal that this version has no words for")
+        let known = meanings().find(|(number, _)| *number == self.number);
+        known.map_or(
+            "a refusal that this version has no words for",
+            |(_, meaning)| meaning,
+        )
     }
 }
 
@@ -66,31 +69,53 @@ impl fmt::Display for Refusal {
 
 impl std::error::Error for Refusal {}
 
-/// What the refusals mean, from number 1 on.
-const MEANINGS: [&str; 18] = [
-    "the stream is longer than 16,777,216 bytes",
-    "a record's header or body passes the end of the stream, or its body is over 8,224 bytes",
-    "the stream is empty, or its first record is not the BOF of the globals",
-    "the rules of how substreams start, nest, follow each other and end are broken",
-    "the workbook is encrypted",
-    "a record has a wrong size or field",
-    "a CONTINUE record has no parent to continue",
-    "the shared string table is broken",
-    "a text cell's index is not below the number of shared strings",
-    "the sheet list and the substreams disagree",
-    "the sheet, string or cell asked for is absent",
-    "the buffer has fewer units than the string",
-    "the formula has an unknown, cut or misplaced token, or a bad length",
-    "the formula's stack runs short, or does not end with one operand",
-    "the formula has no such function, or uses it wrongly",
-    "two or more cells have the address",
-    "the cell's kind does not take this kind of value",
-    "the value does not fit the cell",
+/// What the refusals mean.
+const MEANINGS: [(u8, &str); 19] = [
+    (1, "the stream is longer than 16,777,216 bytes"),
+    (
+        2,
+        "a record's header or body passes the end of the stream, or its body is over 8,224 bytes",
+    ),
+    (
+        3,
+        "the stream is empty, or its first record is not the BOF of the globals",
+    ),
+    (
+        4,
+        "the rules of how substreams start, nest, follow each other and end are broken",
+    ),
+    (5, "the workbook is encrypted"),
+    (6, "a record has a wrong size or field"),
+    (7, "a CONTINUE record has no parent to continue"),
+    (8, "the shared string table is broken"),
+    (
+        9,
+        "a text cell's index is not below the number of shared strings",
+    ),
+    (10, "the sheet list and the substreams disagree"),
+    (11, "the sheet, string or cell asked for is absent"),
+    (12, "the buffer has fewer units than the string"),
+    (
+        13,
+        "the formula has an unknown, cut or misplaced token, or a bad length",
+    ),
+    (
+        14,
+        "the formula's stack runs short, or does not end with one operand",
+    ),
+    (15, "the formula has no such function, or uses it wrongly"),
+    (16, "two or more cells have the address"),
+    (17, "the cell's kind does not take this kind of value"),
+    (18, "the value does not fit the cell"),
+    (
+        20,
+        "the stream is outside the profile of a sensor's session",
+    ),
 ];
 
 /// The number of each refusal, with its meaning.
 pub fn meanings() -> impl Iterator<Item = (u8, &'static str)> {
-    (1..).zip(MEANINGS)
+    MEANINGS.into_iter()
 }
 
 /// The number 0 says that there is no refusal.
@@ -622,6 +647,155 @@ pub fn correct(
     };
     settled(answer.number, answer.offset)
 }
+
+/// What a stream is that sensors write: one worksheet with rows from 0 on without a gap, event ticks in column 0, turns in column 1 and, in all rows or
+/// in none, the host's seconds in column 2.
+#[derive(Clone, Copy, Debug, PartialEq, Eq)]
+pub struct Profile {
+    /// How many rows it has.
+    pub rows: u32,
+    /// How many columns: 2, or 3 with the host's seconds.
+    pub columns: u32,
+}
+
+/// Checks a stream, then whether it is a sensor's session; 20 where it is none.
+pub fn profile(stream: &[u8]) -> Result<Profile, Refusal> {
+    // SAFETY: the slice is valid for its length.
+    let answer = unsafe { raw::station_profile(stream.as_ptr(), stream.len()) };
+    settled(answer.number, answer.offset)?;
+    Ok(Profile {
+        rows: answer.rows,
+        columns: answer.columns,
+    })
+}
+
+/// What lies between a row of a session and the next.
+#[derive(Clone, Copy, Debug, PartialEq, Eq)]
+pub enum Pair {
+    /// A pause: by the host's seconds 64 or more went by, so the counters don't tell how much.
+    Pause,
+    /// What went by on the counters.
+    Elapsed {
+        /// Event ticks, 1,024 a second.
+        ticks: u16,
+        /// Turns.
+        turns: u16,
+        /// Turns a minute, rounded down; none where no tick went by.
+        cadence: Option<u32>,
+    },
+}
+
+impl Pair {
+    /// None where there is no pair.
+    fn of(kind: u8, ticks: u16, turns: u16, cadence: u32) -> Option<Self> {
+        let cadence = match kind {
+            0 => return None,
+            1 => return Some(Pair::Pause),
+            2 => None,
+            _ => Some(cadence),
+        };
+        Some(Pair::Elapsed {
+            ticks,
+            turns,
+            cadence,
+        })
+    }
+}
+
+/// What lies between this row of a session and the next; 11 where either is missing.
+pub fn cadence(stream: &[u8], row: u32) -> Result<Pair, Refusal> {
+    // SAFETY: the slice is valid for its length.
+    let answer = unsafe { raw::station_cadence(stream.as_ptr(), stream.len(), row) };
+    settled(answer.number, answer.offset)?;
+    let pair = Pair::of(answer.kind, answer.ticks, answer.turns, answer.cadence);
+    Ok(pair.expect("an answer that is no refusal has a pair"))
+}
+
+/// What lies between the rows of a session, one pair after the other: the first is that of rows 0 and 1.
+#[derive(Clone, Debug)]
+pub struct Pairs<'a> {
+    stream: &'a [u8],
+    columns: u32,
+    /// The row that the next pair starts from.
+    ticks: u16,
+    turns: u16,
+    seconds: u32,
+    /// Where the cells after that row start.
+    place: Place,
+}
+
+/// Checks a stream, then gives all its pairs without another check; 20 where it is no session.
+///
+/// ```
+/// use station::Pair;
+///
+/// let ride = std::fs::read("../../cases/ride.in").expect("a session");
+/// let mut pairs = station::pairs(&ride)?;
+/// let first = Pair::Elapsed { ticks: 1024, turns: 1, cadence: Some(60) };
+/// assert_eq!(pairs.next(), Some(first));
+/// assert_eq!(pairs.filter(|pair| *pair == Pair::Pause).count(), 1);
+/// # Ok::<(), station::Refusal>(())
+/// ```
+pub fn pairs(stream: &[u8]) -> Result<Pairs<'_>, Refusal> {
+    // SAFETY: the slice is valid for its length.
+    let start = unsafe { raw::station_pairs(stream.as_ptr(), stream.len()) };
+    settled(start.number, start.offset)?;
+    Ok(Pairs {
+        stream,
+        columns: start.columns,
+        ticks: start.ticks,
+        turns: start.turns,
+        seconds: start.seconds,
+        place: Place {
+            at: start.at,
+            part: start.part,
+            level: start.level,
+        },
+    })
+}
+
+impl Pairs<'_> {
+    /// The host's seconds in the row that the next pair starts from, where the session has them: what they have gone on by after a pause is how long
+    /// it was.
+    pub fn seconds(&self) -> Option<u32> {
+        (self.columns == 3).then_some(self.seconds)
+    }
+}
+
+impl Iterator for Pairs<'_> {
+    type Item = Pair;
+
+    fn next(&mut self) -> Option<Pair> {
+        let Place { at, part, level } = self.place;
+        // SAFETY: the slice is valid for its length.
+        let step = unsafe {
+            raw::station_next_pair(
+                self.stream.as_ptr(),
+                self.stream.len(),
+                self.ticks,
+                self.turns,
+                self.seconds,
+                at,
+                part,
+                level,
+                self.columns,
+            )
+        };
+        // Where they have ended nothing moves, so that they have ended the next time too.
+        let pair = Pair::of(step.kind, step.elapsed, step.turned, step.cadence)?;
+        self.ticks = step.ticks;
+        self.turns = step.turns;
+        self.seconds = step.seconds;
+        self.place = Place {
+            at: step.at,
+            part: step.part,
+            level: step.level,
+        };
+        Some(pair)
+    }
+}
+
+impl FusedIterator for Pairs<'_> {}
 
 /// The version of the library: major · 1,000,000 + minor · 1,000 + patch.
 pub fn version() -> u32 {

@@ -67,6 +67,51 @@ pub struct Filled {
     pub level: u8,
 }
 
+#[repr(C)]
+pub struct Profile {
+    pub number: u8,
+    pub offset: usize,
+    pub rows: u32,
+    pub columns: u32,
+}
+
+#[repr(C)]
+pub struct Pair {
+    pub number: u8,
+    pub offset: usize,
+    pub kind: u8,
+    pub ticks: u16,
+    pub turns: u16,
+    pub cadence: u32,
+}
+
+#[repr(C)]
+pub struct Pairs {
+    pub number: u8,
+    pub offset: usize,
+    pub ticks: u16,
+    pub turns: u16,
+    pub seconds: u32,
+    pub at: usize,
+    pub part: u16,
+    pub level: u8,
+    pub columns: u32,
+}
+
+#[repr(C)]
+pub struct Step {
+    pub kind: u8,
+    pub elapsed: u16,
+    pub turned: u16,
+    pub cadence: u32,
+    pub ticks: u16,
+    pub turns: u16,
+    pub seconds: u32,
+    pub at: usize,
+    pub part: u16,
+    pub level: u8,
+}
+
 extern "C" {
     pub fn station_version() -> u32;
     pub fn station_check(stream: *const u8, length: usize) -> Check;
@@ -115,4 +160,18 @@ extern "C" {
         index: u32,
         byte: u8,
     ) -> Answer;
+    pub fn station_profile(stream: *const u8, length: usize) -> Profile;
+    pub fn station_cadence(stream: *const u8, length: usize, row: u32) -> Pair;
+    pub fn station_pairs(stream: *const u8, length: usize) -> Pairs;
+    pub fn station_next_pair(
+        stream: *const u8,
+        length: usize,
+        ticks: u16,
+        turns: u16,
+        seconds: u32,
+        at: usize,
+        part: u16,
+        level: u8,
+        columns: u32,
+    ) -> Step;
 }

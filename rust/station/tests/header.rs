@@ -75,6 +75,10 @@ fn each_refusal_has_its_name() {
         ("AMBIGUOUS", corrected("repeated-address", 7, 7, 1.0)),
         ("WRONG_KIND", corrected("cells", 0, 0, 1.0)),
         ("DOES_NOT_FIT", corrected("cells", 0, 2, 0.1)),
+        (
+            "NOT_A_SESSION",
+            station::profile(&case("cells")).map(|_| ()),
+        ),
     ];
     let given = refused.map(|(name, answer)| (name, answer.expect_err(name).number));
     assert_eq!(refusals(), given);

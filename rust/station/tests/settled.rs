@@ -40,13 +40,13 @@ fn words_of_refusals() {
     );
     let error: Box<dyn std::error::Error> = refusal.into();
     assert_eq!(error.to_string(), refusal.to_string());
-    for (place, (number, meaning)) in station::meanings().enumerate() {
-        assert_eq!(usize::from(number), place + 1);
+    let known: Vec<u8> = station::meanings().map(|(number, _)| number).collect();
+    assert!(known.is_sorted_by(|one, next| one < next));
+    assert!(known.len() >= 18 && known[..18].iter().copied().eq(1..=18));
+    for (number, meaning) in station::meanings() {
         assert_eq!(Refusal { number, offset: 0 }.meaning(), meaning);
     }
-    let count = station::meanings().count() as u8;
-    assert!(count >= 18);
-    for number in [0, count + 1, 255] {
+    for number in (0..=255).filter(|number| !known.contains(number)) {
         let unknown = Refusal { number, offset: 7 };
         assert_eq!(unknown.line(), format!("refused {number} at 7"));
         assert!(unknown.meaning().contains("no words"));

@@ -94,7 +94,7 @@ fn touched(stack: &mut [u8], question: Question, desk: &mut Desk) -> usize {
 }
 
 /// Each C function. They come in an order in which one has the places that it needs from those before it.
-const QUESTIONS: [(&str, Question); 10] = [
+const QUESTIONS: [(&str, Question); 14] = [
     ("station_version", |_| {
         // SAFETY: it takes nothing.
         black_box(unsafe { raw::station_version() });
@@ -148,6 +148,24 @@ const QUESTIONS: [(&str, Question); 10] = [
         let Desk { stream, .. } = desk;
         let (bytes, length) = (stream.as_mut_ptr(), stream.len());
         black_box(unsafe { raw::station_correct(bytes, length, 0, 0, 1, 0, 2.5, 0, 0) });
+    }),
+    ("station_profile", |desk| {
+        let Desk { stream, .. } = desk;
+        black_box(unsafe { raw::station_profile(stream.as_ptr(), stream.len()) });
+    }),
+    ("station_cadence", |desk| {
+        let Desk { stream, .. } = desk;
+        black_box(unsafe { raw::station_cadence(stream.as_ptr(), stream.len(), 0) });
+    }),
+    ("station_pairs", |desk| {
+        let Desk { stream, .. } = desk;
+        black_box(unsafe { raw::station_pairs(stream.as_ptr(), stream.len()) });
+    }),
+    ("station_next_pair", |desk| {
+        let Desk { stream, sheet, .. } = desk;
+        let (bytes, length) = (stream.as_ptr(), stream.len());
+        let (at, part, level) = (sheet.at, sheet.part, sheet.level);
+        black_box(unsafe { raw::station_next_pair(bytes, length, 0, 0, 0, at, part, level, 2) });
     }),
 ];
 

@@ -1,14 +1,15 @@
 //! Many threads ask at the same time, about one stream and about copies of it: each gets what it would get alone.
 
-use station::{cells, check, correct, fetch, judge, Cell, NewValue, Refusal};
+use station::{cells, check, correct, fetch, judge, pairs, Cell, NewValue, Pair, Refusal};
 use std::sync::Barrier;
 use std::thread;
 
 const STREAM: &[u8] = include_bytes!("../../../cases/cells.in");
+const RIDE: &[u8] = include_bytes!("../../../cases/ride.in");
 const THREADS: usize = 8;
 const TURNS: usize = 200;
 
-/// All five questions: counts, sheets with their cells, strings, judgements, and a corrected copy.
+/// All questions: counts, sheets with their cells, strings, judgements, a corrected copy, and the pairs of a session.
 fn answers(stream: &[u8]) -> impl PartialEq + std::fmt::Debug {
     let workbook = check(stream).expect("a stream that passes");
     let sheets: Vec<(Vec<u16>, u32)> = workbook
@@ -22,8 +23,9 @@ fn answers(stream: &[u8]) -> impl PartialEq + std::fmt::Debug {
     let judged = [&[0x1E, 0x01, 0x00][..], &[0x1E, 0x01]].map(|tokens| judge(tokens, &[]));
     let mut copy = stream.to_vec();
     let corrected = correct(&mut copy, 0, 0, 1, NewValue::Number(2.5));
+    let ridden: Result<Vec<Pair>, Refusal> = pairs(RIDE).map(Iterator::collect);
     (
-        sheets, listed, strings, fetched, units, judged, corrected, copy,
+        sheets, listed, strings, fetched, units, judged, corrected, copy, ridden,
     )
 }
 

@@ -1,13 +1,13 @@
 //! Prints how often each refusal occurs over so many seeds (200,000 if none is
 //! given): `cargo run --release --example refusals -- 200000`.
 //!
-//! Each seed asks five questions: check, list, fetch and correct of one stream,
-//! and judge of one formula.
+//! Each seed asks six questions: check, list, fetch and correct of one stream,
+//! judge of one formula, and the cadence of one session.
 
 use second_reader::{self as reader, Refusal};
 use streams::NewValue;
 
-const NUMBERS: usize = 19;
+const NUMBERS: usize = 21;
 
 /// How often each number was the answer; 0 stands for accepted.
 #[derive(Clone, Copy, Default)]
@@ -27,6 +27,7 @@ struct Tally {
     fetch: Counts,
     correct: Counts,
     judge: Counts,
+    cadence: Counts,
     bytes: u64,
     longest: usize,
 }
@@ -57,9 +58,16 @@ impl Tally {
             "{seeds} seeds, {} bytes, longest {}",
             self.bytes, self.longest
         );
-        println!("answer     check      list     fetch   correct     judge");
+        println!("answer     check      list     fetch   correct     judge   cadence");
         for number in 0..NUMBERS {
-            let row = [self.check, self.list, self.fetch, self.correct, self.judge];
+            let row = [
+                self.check,
+                self.list,
+                self.fetch,
+                self.correct,
+                self.judge,
+                self.cadence,
+            ];
             let row: String = row
                 .iter()
                 .map(|counts| format!("{:10}", counts.0[number]))
@@ -85,6 +93,9 @@ fn main() {
         let formula = streams::formula(seed);
         let answer = reader::judge(&formula.tokens, &formula.trailing);
         tally.judge.add(&answer);
+        let session = streams::session(seed);
+        let row = streams::session_row(seed, &session);
+        tally.cadence.add(&reader::cadence(&session, row));
     }
     // The greatest length is met on purpose: nothing shorter is refused for it.
     for seed in 0..6 {

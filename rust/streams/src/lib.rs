@@ -16,6 +16,7 @@ mod jumps;
 mod questions;
 mod record;
 mod rng;
+mod sessions;
 mod table;
 mod trailing;
 mod workbook;
@@ -76,6 +77,21 @@ pub fn formula(seed: u64) -> Formula {
 /// A formula that breaks no rule.
 pub fn valid_formula(seed: u64) -> Formula {
     formula::valid(&mut Rng::for_purpose(seed, 5))
+}
+
+/// A session of any sort.
+pub fn session(seed: u64) -> Vec<u8> {
+    sessions::any(&mut Rng::for_purpose(seed, 10))
+}
+
+/// A session that breaks no rule.
+pub fn valid_session(seed: u64) -> Vec<u8> {
+    sessions::right(&mut Rng::for_purpose(seed, 11))
+}
+
+/// A row to ask a session of.
+pub fn session_row(seed: u64, stream: &[u8]) -> u32 {
+    questions::session_row(&mut Rng::for_purpose(seed, 12), stream)
 }
 
 /// A correction to ask of a stream, with a good chance of hitting a cell.

@@ -128,6 +128,19 @@ pub(crate) fn fetch(rng: &mut Rng, stream: &[u8]) -> Fetch {
     Fetch { index, units }
 }
 
+/// A row that a session has, mostly with one after it, or one that it hasn't.
+pub(crate) fn session_row(rng: &mut Rng, stream: &[u8]) -> u32 {
+    let (_, cells) = sheet_with_cells(rng, stream);
+    let last = cells.last().map_or(0, |cell| u32::from(cell.row));
+    match rng.below(12) {
+        0 => last,
+        1 => last + 1,
+        2 => rng.pick(&[0, 65_534, 65_535, 65_536, u32::MAX]),
+        3 => rng.below(last as usize + 1) as u32 + 65_536,
+        _ => rng.below(last.max(1) as usize) as u32,
+    }
+}
+
 pub(crate) fn sheet(rng: &mut Rng, stream: &[u8]) -> u32 {
     let sheets = sheet_positions(stream).len();
     asked_sheet(rng, sheets)

@@ -94,6 +94,36 @@ pub(crate) fn valid(rng: &mut Rng, keep: bool) -> (Book, Contents) {
     (maker.book, maker.contents)
 }
 
+/// A workbook with sheets of these types. The first worksheet has these records,
+/// and others beside them at times.
+pub(crate) fn around(rng: &mut Rng, sheet_types: &[u8], records: Vec<Record>) -> Book {
+    const BUDGET: usize = 200;
+    let plan = Plan {
+        budget: BUDGET,
+        sheet_types: sheet_types.to_vec(),
+        order: (0..sheet_types.len()).collect(),
+        has_table: rng.percent(30),
+    };
+    let mut maker = Maker {
+        book: Book::default(),
+        contents: Contents::default(),
+        unique: 0,
+        keep: false,
+    };
+    maker.globals(rng, &plan);
+    let worksheet = sheet_types.iter().position(|&sheet_type| sheet_type == 0);
+    let mut records = Some(records);
+    for (number, &sheet_type) in sheet_types.iter().enumerate() {
+        match records.take_if(|_| Some(number) == worksheet) {
+            Some(records) => maker.sheet_of(rng, number, records, BUDGET),
+            None => drop(maker.sheet(rng, number, sheet_type, BUDGET)),
+        }
+    }
+    maker.book.tail = vec![0; tail_size(rng)];
+    maker.book.name_sheets();
+    maker.book
+}
+
 fn tail_size(rng: &mut Rng) -> usize {
     match rng.below(20) {
         0..=13 => 0,
@@ -201,6 +231,23 @@ impl Maker {
         }
         self.book.push(Record::eof());
         cells
+    }
+
+    /// A worksheet of these records, with others beside them at times.
+    fn sheet_of(&mut self, rng: &mut Rng, number: usize, records: Vec<Record>, budget: usize) {
+        let others_percent = rng.pick(&[0, 0, 2, 10]);
+        self.book
+            .push(Record::bof(rng, bof::WORKSHEET, Tie::Starts(number)));
+        for record in records {
+            if rng.percent(others_percent) {
+                self.beside_cells(rng, budget);
+            }
+            self.book.push(record);
+        }
+        if rng.percent(others_percent) {
+            self.beside_cells(rng, budget);
+        }
+        self.book.push(Record::eof());
     }
 
     fn worksheet(&mut self, rng: &mut Rng, budget: usize) -> Vec<CellContents> {

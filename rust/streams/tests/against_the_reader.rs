@@ -80,6 +80,15 @@ fn valid_formulas_are_accepted() {
 }
 
 #[test]
+fn valid_sessions_are_in_the_profile() {
+    for seed in 0..SEEDS {
+        let stream = streams::valid_session(seed);
+        assert!(stream.len() <= streams::LONGEST);
+        assert_eq!(reader::profile(&stream), Ok(()), "seed {seed}");
+    }
+}
+
+#[test]
 fn the_ways_of_reading_agree() {
     for seed in 0..SEEDS {
         let stream = streams::stream(seed);
@@ -166,7 +175,7 @@ fn a_correction_changes_one_cell_and_a_refusal_nothing() {
 
 #[test]
 fn every_refusal_is_met() {
-    let mut met = [0; 19];
+    let mut met = [0; 21];
     let mut meet = |refusal: Refusal| met[usize::from(refusal.number)] += 1;
     for seed in 0..SEEDS {
         let mut stream = streams::stream(seed);
@@ -175,7 +184,9 @@ fn every_refusal_is_met() {
         let mut buffer = vec![0; fetch.units];
         let ask = streams::correction(seed, &stream);
         let formula = streams::formula(seed);
+        let session = streams::session(seed);
         let answers = [
+            reader::profile(&session),
             reader::list_cells(&stream, sheet, |_| ()),
             reader::fetch(&stream, fetch.index, &mut buffer).map(|_| ()),
             reader::correct(
@@ -192,7 +203,10 @@ fn every_refusal_is_met() {
             .filter_map(Result::err)
             .for_each(&mut meet);
     }
-    for (number, &times) in met.iter().enumerate().skip(2) {
+    // 1 needs a longer stream, and 19 is no answer to these questions.
+    let asked_for = (2..=20).filter(|&number| number != 19);
+    for number in asked_for {
+        let times = met[number];
         assert!(times > SEEDS / 500, "{number}: {times}");
     }
 }
@@ -204,6 +218,7 @@ fn the_same_seed_gives_the_same() {
         let stream = streams::stream(seed);
         assert_eq!(stream, streams::stream(seed));
         assert_eq!(streams::formula(seed), streams::formula(seed));
+        assert_eq!(streams::session(seed), streams::session(seed));
         let fetch = streams::fetch(seed, &stream);
         assert_eq!(fetch, streams::fetch(seed, &stream));
         differing += u32::from(stream != streams::stream(seed + 1));

@@ -6,7 +6,7 @@ use crate::nearest::nearest;
 use crate::outcome::{Failure, Output, Status};
 use crate::page::{Page, Part};
 use crate::text::Word;
-use crate::{check, completions, correct, export, help, judge, lines, manual};
+use crate::{cadence, check, completions, correct, export, help, judge, lines, manual, profile};
 use std::ffi::{OsStr, OsString};
 use std::io::Write;
 
@@ -27,7 +27,7 @@ pub struct Command {
     pub run: fn(&Arguments, &mut Output) -> Result<Status, Failure>,
 }
 
-pub static COMMANDS: [Command; 11] = [
+pub static COMMANDS: [Command; 13] = [
     check::CHECK,
     lines::SHEETS,
     export::EXPORT,
@@ -36,6 +36,8 @@ pub static COMMANDS: [Command; 11] = [
     lines::STRINGS,
     lines::FETCH,
     judge::JUDGE,
+    profile::PROFILE,
+    cadence::CADENCE,
     help::HELP_COMMAND,
     manual::MAN,
     completions::COMPLETIONS,

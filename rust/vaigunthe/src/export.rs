@@ -12,13 +12,12 @@ use crate::arguments::{Arguments, Operands, Setting};
 use crate::commands::Command;
 use crate::input::{Stream, STANDARD};
 use crate::outcome::{Failure, Output, Status};
-use crate::replace::Place;
+use crate::replace::{Place, Written};
 use crate::wanted::Wanted;
 use book::Book;
 use station::Refusal;
 use std::ffi::OsStr;
-use std::fs::File;
-use std::io::{self, BufWriter, Write};
+use std::io::{self, Write};
 use std::path::Path;
 
 pub const EXPORT: Command = Command {
@@ -291,10 +290,7 @@ fn refuse(stream: &Stream<'_>, refusal: Refusal, only: Option<&Wanted>) -> Statu
     status
 }
 
-/// A file that is being written.
-type Written<'f> = BufWriter<&'f File>;
-
-/// Puts what is written into a file, behind the mark; never into the one that is read.
+/// Puts what is written into a file, behind the mark.
 fn put(
     stream: &Stream<'_>,
     path: &Path,
@@ -302,14 +298,8 @@ fn put(
     mark: &str,
     write: impl FnOnce(&mut Written<'_>) -> io::Result<()>,
 ) -> Result<(), Failure> {
-    let failed = |error: io::Error| Failure::of_file(path.as_os_str(), &error);
-    let place = place.map_err(failed)?;
-    if stream.path().is_some_and(|read| place.replaces(read)) {
-        return Err(stream.failure("this is what is read: it is not written over"));
-    }
-    let written = place.put(false, |out| {
+    stream.put_beside(path, place, |out| {
         out.write_all(mark.as_bytes())?;
         write(out)
-    });
-    written.map_err(failed)
+    })
 }

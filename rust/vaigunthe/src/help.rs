@@ -57,7 +57,7 @@ const REFUSALS: &str = "\
 A refusal is its number and the offset of what is at fault in the stream or
 formula. What it means is said on standard error. Its bare line, 'refused N at
 O', is on standard output for programs; where data is asked for (sheets, strings,
-export), nothing is.
+export, cadence), nothing is.
 ";
 
 pub const HELP_COMMAND: Command = Command {

@@ -2,6 +2,7 @@
 
 use crate::hint;
 use crate::outcome::{complain, Failure, Status};
+use crate::replace::{Place, Written};
 use crate::text::Name;
 use station::Refusal;
 use std::ffi::OsStr;
@@ -58,6 +59,27 @@ impl<'n> Stream<'n> {
     /// The path that it was read from.
     pub fn path(&self) -> Option<&'n Path> {
         (self.name != STANDARD).then_some(Path::new(self.name))
+    }
+
+    /// The name of the file without its folder, as it stands in a line.
+    pub fn title(&self) -> String {
+        let name = self.path().and_then(Path::file_name);
+        name.map_or(self.called(), Name).to_string()
+    }
+
+    /// Puts what is written into a file; never into the one that is read.
+    pub fn put_beside(
+        &self,
+        path: &Path,
+        place: io::Result<Place>,
+        write: impl FnOnce(&mut Written<'_>) -> io::Result<()>,
+    ) -> Result<(), Failure> {
+        let failed = |error: io::Error| Failure::of_file(path.as_os_str(), &error);
+        let place = place.map_err(failed)?;
+        if self.path().is_some_and(|read| place.replaces(read)) {
+            return Err(self.failure("this is what is read: it is not written over"));
+        }
+        place.put(false, write).map_err(failed)
     }
 
     /// Why it can't be done with this stream.

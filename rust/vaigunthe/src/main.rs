@@ -5,12 +5,14 @@
 
 mod address;
 mod arguments;
+mod cadence;
 mod check;
 mod commands;
 mod completions;
 mod correct;
 mod errors;
 mod export;
+mod files;
 mod help;
 mod hint;
 mod input;
@@ -20,6 +22,8 @@ mod manual;
 mod nearest;
 mod outcome;
 mod page;
+mod picture;
+mod profile;
 mod progress;
 mod replace;
 mod signals;

@@ -7,6 +7,9 @@ use std::os::unix::ffi::OsStrExt;
 use std::os::unix::fs::{fchown, MetadataExt, OpenOptionsExt};
 use std::path::{Path, PathBuf};
 
+/// A file that is being written.
+pub type Written<'f> = BufWriter<&'f File>;
+
 /// Where a file is to be put. The file that is there already is held until that is done: another run that would replace it waits, so that what it reads is what
 /// this one has written.
 pub struct Place {
@@ -77,7 +80,7 @@ impl Place {
     pub fn put(
         &self,
         lasting: bool,
-        write: impl FnOnce(&mut BufWriter<&File>) -> io::Result<()>,
+        write: impl FnOnce(&mut Written<'_>) -> io::Result<()>,
     ) -> io::Result<()> {
         let new = Temporary::beside(&self.path, self.old.is_some())?;
         if let Some(old) = &self.old {

@@ -1,4 +1,4 @@
-//! The text of a workbook as it is written down: in lines, in CSV and in JSON.
+//! The text of a workbook as it is written down: in lines, in CSV, in JSON and in XML.
 
 use std::ffi::OsStr;
 use std::fmt::{self, Display, Formatter, Write};
@@ -149,5 +149,21 @@ impl Display for InJson<'_> {
             Err(lone) => write!(f, "\\u{lone:04X}"),
         })?;
         f.write_char('"')
+    }
+}
+
+/// Text between the tags of XML. What XML has no character for is written as in a line.
+pub struct InXml<'a>(pub &'a str);
+
+impl Display for InXml<'_> {
+    fn fmt(&self, f: &mut Formatter<'_>) -> fmt::Result {
+        self.0.chars().try_for_each(|character| match character {
+            '&' => f.write_str("&amp;"),
+            '<' => f.write_str("&lt;"),
+            '>' => f.write_str("&gt;"),
+            '\u{FFFE}' | '\u{FFFF}' => write_code(f, character.into()),
+            hidden if is_control(hidden) => write_code(f, hidden.into()),
+            plain => f.write_char(plain),
+        })
     }
 }

@@ -3,6 +3,7 @@
 
 mod functions;
 mod jumps;
+mod sessions;
 mod tokens;
 mod trailing;
 

@@ -2,10 +2,11 @@
 
 use super::book::Book;
 use super::grid::{self, Grid};
-use super::{put, Written};
+use super::put;
 use crate::input::Stream;
 use crate::outcome::Failure;
 use crate::replace::Place;
+use crate::replace::Written;
 use station::Sheet;
 use std::ffi::OsStr;
 use std::fs;

@@ -1,7 +1,7 @@
 //! check.
 
 use crate::made;
-use crate::tool::{case, case_inputs, cases, finish, run, run_with, Folder, TOLD_BY, TOOL};
+use crate::tool::{case, case_inputs, cases, finish, run, run_with, words_of, Folder, TOOL};
 use crate::words;
 use std::ffi::{OsStr, OsString};
 use std::fs::{self, File};
@@ -25,7 +25,7 @@ fn assert_line(line: &str, name: &str, stream: &[u8]) {
         Ok(_) => assert_eq!(line, expected),
         Err(refusal) => {
             assert!(line.starts_with(&expected), "{line}: not {expected}");
-            let words = TOLD_BY[usize::from(refusal.number) - 1];
+            let words = words_of(refusal.number);
             assert!(line[expected.len()..].contains(words), "{line}");
         }
     }

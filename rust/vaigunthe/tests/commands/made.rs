@@ -132,3 +132,25 @@ pub fn text(row: u16, column: u16, index: u32) -> Vec<u8> {
 pub fn error(row: u16, column: u16, code: u8) -> Vec<u8> {
     cell(0x0205, row, column, &[code, 1])
 }
+
+pub fn mulrk(row: u16, numbers: &[i32]) -> Vec<u8> {
+    let mut body = [row, 0].map(u16::to_le_bytes).concat();
+    for number in numbers {
+        body.extend(15u16.to_le_bytes());
+        body.extend((number << 2 | 2).to_le_bytes());
+    }
+    body.extend((numbers.len() as u16 - 1).to_le_bytes());
+    record(0x00BD, &body)
+}
+
+/// A session with these rows: ticks and turns, which start again after 65,535, and seconds.
+pub fn session(rows: &[[u64; 3]]) -> Vec<u8> {
+    let mut records = Vec::new();
+    for (row, &[ticks, turns, seconds]) in rows.iter().enumerate() {
+        let row = u16::try_from(row).expect("a row that fits");
+        for (column, count) in (0..).zip([ticks % 65_536, turns % 65_536, seconds]) {
+            records.push(number(row, column, count as f64));
+        }
+    }
+    one(&[], records)
+}

@@ -1,6 +1,7 @@
 //! The command line as a user meets it: the built tool is run over the stored cases and over made streams. What it must print is taken from the
 //! second reader, or written down after document 01.
 
+mod cadence;
 mod check;
 mod completions;
 mod correct;
@@ -13,6 +14,8 @@ mod list;
 mod made;
 mod manual;
 mod parse;
+mod picture;
+mod profile;
 mod replace;
 mod sheets;
 mod signals;

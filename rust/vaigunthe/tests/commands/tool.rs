@@ -165,27 +165,34 @@ macro_rules! words {
 fn told_by(line: &str) -> &'static str {
     let number = line.strip_prefix("refused ").expect("a refusal");
     let (number, _) = number.split_once(" at ").expect("an offset");
-    TOLD_BY[number.parse::<usize>().expect("a number") - 1]
+    words_of(number.parse().expect("a number"))
 }
 
-/// Words of document 01's table of refusals, for each of them in order.
-pub const TOLD_BY: [&str; 18] = [
-    "longer than 16,777,216 bytes",
-    "8,224 bytes",
-    "first record",
-    "substreams",
-    "encrypted",
-    "wrong size or field",
-    "CONTINUE",
-    "shared string table",
-    "index is not below",
-    "sheet list and the substreams disagree",
-    "sheet, string or cell asked for is absent",
-    "fewer units than the string",
-    "unknown, cut or misplaced token",
-    "stack runs short",
-    "no such function",
-    "two or more cells have the address",
-    "kind does not take this kind of value",
-    "value does not fit",
+/// Words for the refusal of this number.
+pub fn words_of(number: u8) -> &'static str {
+    let told = TOLD_BY.iter().find(|(known, _)| *known == number);
+    told.expect("a known refusal").1
+}
+
+/// Words of the papers for each refusal, in the order of their numbers.
+pub const TOLD_BY: [(u8, &str); 19] = [
+    (1, "longer than 16,777,216 bytes"),
+    (2, "8,224 bytes"),
+    (3, "first record"),
+    (4, "substreams"),
+    (5, "encrypted"),
+    (6, "wrong size or field"),
+    (7, "CONTINUE"),
+    (8, "shared string table"),
+    (9, "index is not below"),
+    (10, "sheet list and the substreams disagree"),
+    (11, "sheet, string or cell asked for is absent"),
+    (12, "fewer units than the string"),
+    (13, "unknown, cut or misplaced token"),
+    (14, "stack runs short"),
+    (15, "no such function"),
+    (16, "two or more cells have the address"),
+    (17, "kind does not take this kind of value"),
+    (18, "value does not fit"),
+    (20, "outside the profile of a sensor's session"),
 ];

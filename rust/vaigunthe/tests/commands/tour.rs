@@ -30,7 +30,11 @@ fn prints_what_the_readme_says() {
     let readme = Path::new(env!("CARGO_MANIFEST_DIR")).join("../../README.md");
     let readme = fs::read_to_string(readme).expect("the README");
     let folder = Folder::new();
-    for (name, sample) in [("session.bin", "cells.in"), ("dated.bin", "dates.in")] {
+    for (name, sample) in [
+        ("session.bin", "cells.in"),
+        ("dated.bin", "dates.in"),
+        ("ride.bin", "ride.in"),
+    ] {
         folder.put(name, &fs::read(case(sample)).expect("the sample"));
     }
     let steps = tour(&readme);

@@ -1,5 +1,6 @@
 //! Help, wrong usage, and what becomes of the output.
 
+use crate::made;
 use crate::tool::{case, finish, run, run_with, Folder, TOLD_BY, TOOL};
 use crate::words;
 use std::ffi::OsStr;
@@ -7,7 +8,7 @@ use std::fs::{self, File};
 use std::io::Read;
 use std::process::{Command, Stdio};
 
-pub const COMMANDS: [&str; 11] = [
+pub const COMMANDS: [&str; 13] = [
     "check",
     "list",
     "sheets",
@@ -16,6 +17,8 @@ pub const COMMANDS: [&str; 11] = [
     "judge",
     "export",
     "correct",
+    "profile",
+    "cadence",
     "help",
     "man",
     "completions",
@@ -33,13 +36,11 @@ fn help() {
     for command in COMMANDS {
         assert!(page.contains(&format!("\n  {command} ")), "{command}");
     }
-    for (number, words) in (1..).zip(TOLD_BY) {
-        let (_, after) = page
-            .split_once(&format!("\n  {number:>2}  "))
-            .expect("a number");
-        let (meaning, _) = after
-            .split_once(&format!("\n  {:>2}  ", number + 1))
-            .unwrap_or((after, ""));
+    let item = |number: u8| format!("\n  {number:>2}  ");
+    let following = TOLD_BY.iter().skip(1).map(|(next, _)| item(*next));
+    for ((number, words), next) in TOLD_BY.iter().zip(following.chain(["\n\n".into()])) {
+        let (_, after) = page.split_once(&item(*number)).expect("a number");
+        let (meaning, _) = after.split_once(&next).unwrap_or((after, ""));
         let meaning: Vec<_> = meaning.split_whitespace().collect();
         assert!(meaning.join(" ").contains(words), "{number}");
     }
@@ -98,6 +99,8 @@ fn examples_are_right() {
             let folder = Folder::new();
             let stream = fs::read(case("cells.in")).expect("an input");
             folder.put("session.bin", &stream);
+            let ride = fs::read(case("ride.in")).expect("an input");
+            folder.put("ride.bin", &ride);
             fs::create_dir(folder.at("sessions")).expect("a folder");
             folder.put("sessions/one.bin", &stream);
             folder.put("sessions/bad.bin", &stream[1..]);
@@ -141,6 +144,7 @@ fn unknown_words() {
     for command in ["list", "sheets", "strings"] {
         run(&[command, "one", "two"]).fails("'two'");
     }
+    run(&["cadence", "one", "two"]).fails("'two'");
     run(&["fetch", "file"]).fails("INDEX is missing");
     run(&["fetch", "file", "1", "--room"]).fails("--room needs a value");
     run(&["fetch", "file", "1", "--rom", "7"]).fails("did you mean --room?");
@@ -224,8 +228,12 @@ fn what_comes_after_two_hyphens_is_no_option() {
 fn a_reader_that_has_seen_enough() {
     let folder = Folder::new();
     let file = folder.put("in", &streams::big(streams::Big::Numbers, 3_000_000));
-    let calls: [&[std::ffi::OsString]; 4] = [
+    let ride = folder.put("ride", &made::session(&[[1, 2, 3]; 10_000]));
+    let calls: [&[std::ffi::OsString]; 7] = [
         words!["list", file],
+        words!["cadence", ride],
+        words!["cadence", ride, "--csv"],
+        words!["cadence", ride, "--json"],
         words!["export", file, "--csv"],
         words!["export", file, "--json"],
         words!["correct", file, "0", "0", "0", "number", "1", "--output", "-"],

@@ -1,0 +1,3 @@
+pub mod Cadence
+pub mod Steps
+pub mod Claims

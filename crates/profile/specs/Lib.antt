@@ -1,0 +1,4 @@
+pub mod Placed
+pub mod Profile
+pub mod Claims
+pub mod Parts

@@ -1,0 +1,16 @@
+use Rattle.session.proofs.Laws.{cadence-by}
+use Rattle.walk.proofs.Choice.{refl′}
+use borrow.Author.Needs.{needs}
+use Rattle.session.proofs.cadence_seen.Statement.{statement}
+use Rattle.session.proofs.cadence_seen.Tie as tie
+
+pub cadence-seen-spec : {M : Type 1} → statement M
+cadence-seen-spec =
+    tie.close
+    (tie.spec
+    -- cadence-at-requires
+    (λ c κs. search needs)
+    -- pair-seen-requires
+    (λ c κs. search needs)
+    -- returns
+    (λ c. search cadence-by))
