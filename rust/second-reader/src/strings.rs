@@ -64,16 +64,39 @@ impl<'a> StringTable<'a> {
         for _ in 0..index {
             string(&mut segments, |_| ())?;
         }
-        // The length is known before the first unit, so that a short buffer is
-        // refused before anything is written.
-        let length = next_length(segments.clone())?;
-        let mut free = buffer
-            .get_mut(..length)
-            .ok_or(Refusal::of_question(12))?
-            .iter_mut();
-        string(&mut segments, |part| part.write_to(&mut free))?;
-        Ok(length)
+        write_next(segments, buffer)
     }
+
+    /// Hands over where each string's head stands, and where the header of the
+    /// record does that holds the head.
+    pub fn each_place<F: FnMut(usize, usize)>(&self, mut take: F) -> Result<(), Refusal> {
+        let Some(mut segments) = self.first.clone() else {
+            return Ok(());
+        };
+        for _ in 0..self.unique {
+            // A head that would start where a segment ends stands in the next.
+            segments.advance_if_spent()?;
+            take(segments.next_at(), segments.at);
+            string(&mut segments, |_| ())?;
+        }
+        Ok(())
+    }
+}
+
+/// Writes the units of the string whose head is said to stand at `head`, in the
+/// record whose header is said to stand at `segment`. Nothing is known of the
+/// stream, so the string is read to its end before a unit is written; whatever
+/// is wrong with it makes it absent.
+pub(crate) fn fetch_at(
+    stream: &[u8],
+    head: usize,
+    segment: usize,
+    buffer: &mut [u16],
+) -> Result<usize, Refusal> {
+    let absent = Refusal::of_question(11);
+    let segments = Segments::from_head(stream, head, segment).ok_or(absent)?;
+    string(&mut segments.clone(), |_| ()).map_err(|_| absent)?;
+    write_next(segments, buffer)
 }
 
 /// A part of a string's characters that stands in one segment.
@@ -126,6 +149,31 @@ impl<'a> Segments<'a> {
             rest: segment.body,
             records,
         }
+    }
+
+    /// From a head on, which must stand in the body of an SST or CONTINUE whose
+    /// header is at `segment`. The counts at an SST's start are part of its body.
+    fn from_head(stream: &'a [u8], head: usize, segment: usize) -> Option<Self> {
+        if segment > stream.len() {
+            return None;
+        }
+        let mut records = Records::from(stream, segment);
+        let record = records.next().ok()??;
+        if !matches!(record.kind, kind::SST | kind::CONTINUE) {
+            return None;
+        }
+        let before = head.checked_sub(record.body_at())?;
+        let segments = Segments {
+            at: record.at,
+            rest: record.body.get(before..)?,
+            records,
+        };
+        (!segments.is_spent()).then_some(segments)
+    }
+
+    /// Where the next byte of the segment being read stands.
+    fn next_at(&self) -> usize {
+        self.records.at() - self.rest.len()
     }
 
     fn broken(&self) -> Refusal {
@@ -241,6 +289,19 @@ fn string<'a, F: FnMut(Characters<'a>)>(
     characters(segments, &head, take)?;
     skip_runs(segments, head.runs)?;
     skip_phonetic(segments, head.phonetic)
+}
+
+/// Writes the next string's units at the start of the buffer. The length is
+/// known before the first unit, so that a short buffer is refused before
+/// anything is written.
+fn write_next(mut segments: Segments<'_>, buffer: &mut [u16]) -> Result<usize, Refusal> {
+    let length = next_length(segments.clone())?;
+    let mut free = buffer
+        .get_mut(..length)
+        .ok_or(Refusal::of_question(12))?
+        .iter_mut();
+    string(&mut segments, |part| part.write_to(&mut free))?;
+    Ok(length)
 }
 
 /// The length of the next string.
