@@ -3,6 +3,7 @@
 use crate::cells::{is_error_code, is_truth, Cell, Value};
 use crate::survey::Survey;
 use crate::{rk, Refusal};
+use std::ops::Range;
 
 /// The new value of a cell. Nothing is cut down: what is out of range is
 /// refused.
@@ -28,11 +29,37 @@ pub fn correct(
     value: NewValue,
 ) -> Result<(), Refusal> {
     let survey = Survey::of(stream)?;
-    let cell = only_cell(&survey, sheet, row, column)?;
-    let field = cell.value_field.clone();
-    let bytes = field_bytes(&cell, value, survey.strings.unique()).map_err(Refusal::of_question)?;
-    stream[field].copy_from_slice(bytes.as_slice());
+    let granted = grant(&survey, sheet, row, column, value)?;
+    granted.write_to(stream);
     Ok(())
+}
+
+/// A granted correction: the cell's value field, and its new bytes.
+pub(crate) struct Granted {
+    place: Range<usize>,
+    bytes: Field,
+}
+
+impl Granted {
+    pub fn write_to(&self, stream: &mut [u8]) {
+        stream[self.place.clone()].copy_from_slice(self.bytes.as_slice());
+    }
+}
+
+/// Judges a correction of a stream that passes the check.
+pub(crate) fn grant(
+    survey: &Survey<'_>,
+    sheet: u32,
+    row: u32,
+    column: u32,
+    value: NewValue,
+) -> Result<Granted, Refusal> {
+    let cell = only_cell(survey, sheet, row, column)?;
+    let bytes = field_bytes(&cell, value, survey.indices).map_err(Refusal::of_question)?;
+    Ok(Granted {
+        place: cell.value_field,
+        bytes,
+    })
 }
 
 /// The one cell with an address.

@@ -18,6 +18,7 @@ mod correction;
 mod formula;
 mod functions;
 mod jumps;
+mod pair;
 mod places;
 mod print;
 mod records;
@@ -32,6 +33,10 @@ mod trailing;
 pub use cells::{Cell, FormulaResult, Value};
 pub use correction::{correct, NewValue};
 pub use formula::judge;
+pub use pair::{
+    pair_cells, pair_check, pair_correct, pair_fetch, pair_fill, pair_sheet, pair_sheet_name,
+    PairRefusal, PairSheet, Whose,
+};
 pub use places::{fetch_through, fill};
 pub use print::{lines, print};
 pub use refusal::Refusal;

@@ -34,6 +34,11 @@ impl<'a> StringTable<'a> {
         })
     }
 
+    /// Whether the globals have an SST, be it one of no strings.
+    pub fn is_there(&self) -> bool {
+        self.first.is_some()
+    }
+
     /// The number of strings; 0 where there is no table.
     #[inline]
     pub fn unique(&self) -> u32 {

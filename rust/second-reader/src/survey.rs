@@ -37,22 +37,35 @@ pub(crate) struct Survey<'a> {
     matches: Vec<usize>,
     substreams: Vec<Substream>,
     pub strings: StringTable<'a>,
+    /// The unique count of the table that text cells' indices resolve in.
+    pub indices: u32,
 }
 
 impl<'a> Survey<'a> {
-    /// Walks the stream. The sheet list is compared with the substreams only
-    /// after the walk, since every fault on the way comes before that.
+    /// Walks a stream that stands alone.
     pub fn of(stream: &'a [u8]) -> Result<Self, Refusal> {
+        Self::with_lent(stream, 0)
+    }
+
+    /// Walks the stream. Where it has no SST of its own, its text indices
+    /// resolve in a lent table with so many strings. The sheet list is compared
+    /// with the substreams only after the walk, since every fault on the way
+    /// comes before that.
+    pub fn with_lent(stream: &'a [u8], lent_unique: u32) -> Result<Self, Refusal> {
         if stream.len() > LONGEST_STREAM {
             return Err(Refusal::new(1, 0));
         }
         let mut records = Records::from(stream, 0);
         start_globals(&mut records)?;
         let globals = Globals::read(&mut records)?;
-        let unique = globals.strings.unique();
+        let indices = if globals.strings.is_there() {
+            globals.strings.unique()
+        } else {
+            lent_unique
+        };
         let mut substreams = Vec::with_capacity(globals.sheets.len());
         while let Some(bof) = next_sheet(&mut records)? {
-            substreams.push(sheet(&bof, &mut records, unique)?);
+            substreams.push(sheet(&bof, &mut records, indices)?);
         }
         let matches = match_up(&globals.sheets, &substreams)?;
         Ok(Survey {
@@ -61,6 +74,7 @@ impl<'a> Survey<'a> {
             matches,
             substreams,
             strings: globals.strings,
+            indices,
         })
     }
 
@@ -78,13 +92,17 @@ impl<'a> Survey<'a> {
         Ok(&self.substreams[number])
     }
 
+    /// The part of the stream that is a sheet's name.
+    pub fn name(&self, sheet: &SheetEntry) -> &'a [u8] {
+        &self.stream[sheet.name.clone()]
+    }
+
     /// Hands over the cells of a sheet. All of them were judged by the walk, so
     /// past the sheet's number nothing is refused any more.
     #[inline]
     pub fn list<F: FnMut(&Cell)>(&self, sheet: usize, mut take: F) -> Result<(), Refusal> {
-        let unique = self.strings.unique();
         self.each_record(sheet, |record| {
-            each_cell(record, unique, |cell| take(&cell))
+            each_cell(record, self.indices, |cell| take(&cell))
                 .map(|_| ())
                 .map_err(|number| record.refuse(number))
         })
