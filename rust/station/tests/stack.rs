@@ -13,6 +13,7 @@ use std::fs;
 use std::hint::black_box;
 use std::path::Path;
 use std::ptr;
+use std::thread;
 
 /// What `include/station.h` promises.
 const ENOUGH: usize = 65_536;
@@ -247,6 +248,27 @@ fn no_question_needs_more_than_the_header_says() {
             needed <= ENOUGH,
             "{name} of {stream} needs {needed} bytes of stack"
         );
+    }
+}
+
+/// What is lent to the questions holds afterwards, once each has been asked.
+fn lent_after(stream: Vec<u8>) -> (Vec<u8>, Vec<u16>, Vec<u64>) {
+    let mut desk = desk(stream);
+    for (_, question) in QUESTIONS {
+        question(&mut desk);
+    }
+    (desk.stream, desk.units, desk.words)
+}
+
+/// An embedder's small thread, for sheets in order and out of order.
+#[test]
+fn every_question_on_a_thread_of_128_kilobytes() {
+    for (name, stream) in named_streams() {
+        let lent = stream.clone();
+        let small = thread::Builder::new().stack_size(128 << 10);
+        let asked = small.spawn(|| lent_after(lent)).expect("a thread");
+        let after = asked.join().expect("an answer");
+        assert!(after == lent_after(stream), "{name}");
     }
 }
 
