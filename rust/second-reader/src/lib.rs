@@ -14,6 +14,7 @@
 #![warn(missing_docs)]
 
 mod cells;
+mod compare;
 mod correction;
 mod formula;
 mod functions;
@@ -31,6 +32,7 @@ mod survey;
 mod trailing;
 
 pub use cells::{Cell, FormulaResult, Value};
+pub use compare::{compare, Address, Difference, RefusedSide, Side};
 pub use correction::{correct, NewValue};
 pub use formula::judge;
 pub use pair::{
