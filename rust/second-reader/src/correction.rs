@@ -80,14 +80,24 @@ fn only_cell(survey: &Survey<'_>, sheet: u32, row: u32, column: u32) -> Result<C
 }
 
 /// The bytes of a value field.
-enum Field {
+#[derive(Clone, Copy)]
+pub(crate) enum Field {
     Eight([u8; 8]),
     Four([u8; 4]),
     Two([u8; 2]),
 }
 
 impl Field {
-    fn as_slice(&self) -> &[u8] {
+    /// None where no value field has that many bytes.
+    pub fn of(bytes: &[u8]) -> Option<Self> {
+        match *bytes {
+            [a, b] => Some(Field::Two([a, b])),
+            [a, b, c, d] => Some(Field::Four([a, b, c, d])),
+            _ => bytes.try_into().ok().map(Field::Eight),
+        }
+    }
+
+    pub fn as_slice(&self) -> &[u8] {
         match self {
             Field::Eight(bytes) => bytes,
             Field::Four(bytes) => bytes,
@@ -98,7 +108,7 @@ impl Field {
 
 /// What a granted correction writes: 17 where the cell doesn't take this kind
 /// of value, 18 where it takes the kind but not this value.
-fn field_bytes(cell: &Cell, value: NewValue, unique: u32) -> Result<Field, u8> {
+pub(crate) fn field_bytes(cell: &Cell, value: NewValue, unique: u32) -> Result<Field, u8> {
     match (cell.value, value) {
         (Value::Number(_), NewValue::Number(number)) => number_bytes(cell, number),
         (Value::Text(_), NewValue::Text(index)) if index < unique => {

@@ -18,6 +18,7 @@ mod compare;
 mod correction;
 mod formula;
 mod functions;
+mod journal;
 mod jumps;
 mod pair;
 mod places;
@@ -35,6 +36,7 @@ pub use cells::{Cell, FormulaResult, Value};
 pub use compare::{compare, Address, Difference, RefusedSide, Side};
 pub use correction::{correct, NewValue};
 pub use formula::judge;
+pub use journal::{correct_journalled, replay, start_journal, Direction, Unreplayed};
 pub use pair::{
     pair_cells, pair_check, pair_correct, pair_fetch, pair_fill, pair_sheet, pair_sheet_name,
     PairRefusal, PairSheet, Whose,

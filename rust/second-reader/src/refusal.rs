@@ -3,7 +3,7 @@ use std::fmt;
 /// A refusal: its number in the table of refusals, and where.
 #[derive(Clone, Copy, Debug, PartialEq, Eq, Hash)]
 pub struct Refusal {
-    /// 1 to 18, or 20.
+    /// 1 to 18, 20 or 21.
     pub number: u8,
     /// Where in the stream or formula; 0 where the rules name no place.
     pub offset: usize,

@@ -45,6 +45,14 @@ impl<'a> StringTable<'a> {
         self.unique
     }
 
+    /// The number of strings; a lent one where there is no table.
+    pub fn unique_or(&self, lent: u32) -> u32 {
+        match self.first {
+            Some(_) => self.unique,
+            None => lent,
+        }
+    }
+
     /// The units of all strings.
     pub fn all(&self) -> Result<Vec<Vec<u16>>, Refusal> {
         let Some(mut segments) = self.first.clone() else {

@@ -58,11 +58,7 @@ impl<'a> Survey<'a> {
         let mut records = Records::from(stream, 0);
         start_globals(&mut records)?;
         let globals = Globals::read(&mut records)?;
-        let indices = if globals.strings.is_there() {
-            globals.strings.unique()
-        } else {
-            lent_unique
-        };
+        let indices = globals.strings.unique_or(lent_unique);
         let mut substreams = Vec::with_capacity(globals.sheets.len());
         while let Some(bof) = next_sheet(&mut records)? {
             substreams.push(sheet(&bof, &mut records, indices)?);
