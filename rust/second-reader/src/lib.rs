@@ -14,6 +14,7 @@
 #![warn(missing_docs)]
 
 mod cells;
+mod compact;
 mod compare;
 mod correction;
 mod formula;
@@ -33,6 +34,7 @@ mod survey;
 mod trailing;
 
 pub use cells::{Cell, FormulaResult, Value};
+pub use compact::{compact, compact_session, Compacted};
 pub use compare::{compare, Address, Difference, RefusedSide, Side};
 pub use correction::{correct, NewValue};
 pub use formula::judge;

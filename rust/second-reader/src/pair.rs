@@ -25,8 +25,8 @@ pub enum Whose {
 pub enum PairRefusal {
     /// The check refuses this stream, at an offset in it.
     Stream(Whose, Refusal),
-    /// The question is refused, with 11, 12, 16, 17 or 18 at 0; that is no
-    /// stream's fault.
+    /// The question is refused, with 11, 12, 16, 17 or 18 at 0, or with 1 for a
+    /// result that is too long; that is no stream's fault.
     Question(Refusal),
 }
 
@@ -165,14 +165,14 @@ pub fn pair_fill(
 }
 
 /// Both streams, once they pass.
-struct Pair<'a> {
+pub(crate) struct Pair<'a> {
     template: Survey<'a>,
-    session: Survey<'a>,
+    pub session: Survey<'a>,
 }
 
 impl<'a> Pair<'a> {
     /// All of the template's refusals come before the session's.
-    fn of(template: &'a [u8], session: &'a [u8]) -> Result<Self, PairRefusal> {
+    pub fn of(template: &'a [u8], session: &'a [u8]) -> Result<Self, PairRefusal> {
         let template = Survey::of(template)
             .map_err(|refusal| PairRefusal::Stream(Whose::Template, refusal))?;
         let session = Survey::with_lent(session, template.strings.unique())

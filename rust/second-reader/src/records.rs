@@ -3,7 +3,7 @@
 use crate::Refusal;
 
 pub(crate) const HEADER_SIZE: usize = 4;
-const LONGEST_BODY: usize = 8_224;
+pub(crate) const LONGEST_BODY: usize = 8_224;
 
 /// The record types that are told apart; all others are passed over.
 pub(crate) mod kind {

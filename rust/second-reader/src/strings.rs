@@ -4,7 +4,7 @@ use crate::records::{kind, Record, Records};
 use crate::Refusal;
 
 const COUNTS_SIZE: usize = 8;
-const RUN_SIZE: usize = 4;
+pub(crate) const RUN_SIZE: usize = 4;
 
 /// Where a string table stands and how many strings it has.
 #[derive(Clone, Debug, Default)]
@@ -65,6 +65,24 @@ impl<'a> StringTable<'a> {
             strings.push(units);
         }
         Ok(strings)
+    }
+
+    /// Hands over the strings that are marked, each as a whole and in order.
+    pub fn each_marked<F>(&self, marked: &[bool], mut take: F) -> Result<(), Refusal>
+    where
+        F: FnMut(WholeString),
+    {
+        let Some(mut segments) = self.first.clone() else {
+            return Ok(());
+        };
+        for &marked in marked {
+            if marked {
+                take(WholeString::read(&mut segments)?);
+            } else {
+                string(&mut segments, |_| ())?;
+            }
+        }
+        Ok(())
     }
 
     /// Writes one string's units at the start of the buffer.
@@ -300,8 +318,8 @@ fn string<'a, F: FnMut(Characters<'a>)>(
     segments.advance_if_spent()?;
     let head = Head::read(segments)?;
     characters(segments, &head, take)?;
-    skip_runs(segments, head.runs)?;
-    skip_phonetic(segments, head.phonetic)
+    after_characters(segments, RUN_SIZE, head.runs, |_| ())?;
+    after_characters(segments, 1, head.phonetic, |_| ())
 }
 
 /// Writes the next string's units at the start of the buffer. The length is
@@ -353,24 +371,55 @@ fn characters<'a, F: FnMut(Characters<'a>)>(
     Ok(())
 }
 
-/// Runs go on in the next segment without a flags byte; none may be cut.
+/// The runs of a string, or its phonetic bytes as fields of one byte: they go on
+/// in the next segment without a flags byte, and no field may be cut.
 #[inline]
-fn skip_runs(segments: &mut Segments<'_>, runs: usize) -> Result<(), Refusal> {
-    let mut left = runs;
+fn after_characters<'a, F: FnMut(&'a [u8])>(
+    segments: &mut Segments<'a>,
+    width: usize,
+    count: usize,
+    mut take: F,
+) -> Result<(), Refusal> {
+    let mut left = count;
     while left > 0 {
         segments.advance_if_spent()?;
-        left -= segments.fields(RUN_SIZE, left)?.0;
+        let (count, bytes) = segments.fields(width, left)?;
+        take(bytes);
+        left -= count;
     }
     Ok(())
 }
 
-/// Phonetic bytes go on in the next segment wherever they like.
-#[inline]
-fn skip_phonetic(segments: &mut Segments<'_>, size: usize) -> Result<(), Refusal> {
-    let mut left = size;
-    while left > 0 {
+/// One string with all that belongs to it, whatever segments it stands in.
+pub(crate) struct WholeString {
+    /// Whether its head has a run count, be it 0.
+    pub rich: bool,
+    /// Whether its head has a phonetic size, be it 0.
+    pub phonetic: bool,
+    pub units: Vec<u16>,
+    pub run_bytes: Vec<u8>,
+    pub phonetic_bytes: Vec<u8>,
+}
+
+impl WholeString {
+    fn read(segments: &mut Segments<'_>) -> Result<Self, Refusal> {
         segments.advance_if_spent()?;
-        left -= segments.fields(1, left)?.0;
+        let flags = segments.clone().piece(3)?[2];
+        let head = Head::read(segments)?;
+        let mut whole = WholeString {
+            rich: flags & 8 != 0,
+            phonetic: flags & 4 != 0,
+            units: Vec::with_capacity(head.length),
+            run_bytes: Vec::new(),
+            phonetic_bytes: Vec::new(),
+        };
+        characters(segments, &head, |part| part.append_to(&mut whole.units))?;
+        after_characters(segments, RUN_SIZE, head.runs, |runs| {
+            whole.run_bytes.extend(runs);
+        })?;
+        after_characters(segments, 1, head.phonetic, |bytes| {
+            whole.phonetic_bytes.extend(bytes);
+        })?;
+        Ok(whole)
     }
-    Ok(())
 }

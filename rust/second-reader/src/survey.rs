@@ -7,7 +7,7 @@ use crate::sheets::{match_up, SheetEntry, SheetType};
 use crate::strings::StringTable;
 use crate::{Passed, Refusal};
 
-const LONGEST_STREAM: usize = 16_777_216;
+pub(crate) const LONGEST_STREAM: usize = 16_777_216;
 const VERSION: u16 = 0x0600;
 const GLOBALS: u16 = 0x0005;
 const CHART: u16 = 0x0020;
