@@ -4,13 +4,17 @@ use crate::correct::{ask, assert_holds, correct, in_place, to};
 use crate::tool::{Folder, TOOL};
 use std::ffi::OsString;
 use std::fs;
-use std::os::unix::process::ExitStatusExt;
+use std::os::unix::process::{CommandExt, ExitStatusExt};
 use std::path::Path;
 use std::process::{Child, Command, ExitStatus, Stdio};
 
 extern "C" {
     fn kill(process: i32, signal: i32) -> i32;
+    fn signal(signal: i32, handler: usize) -> usize;
 }
+
+/// What a signal does where nobody has asked for anything else.
+const DEFAULT: usize = 0;
 
 const HANGUP: i32 = 1;
 const INTERRUPT: i32 = 2;
@@ -49,8 +53,19 @@ fn interrupt(command: &mut Command, folder: &Folder, signal: i32) -> ExitStatus 
     }
 }
 
+/// A run that signals end, also where whoever runs the tests ignores them, as under nohup.
 fn call(file: &Path, target: &[OsString]) -> Command {
-    ask(Command::new(TOOL), file, "0 0 0 number 3", target)
+    let mut command = ask(Command::new(TOOL), file, "0 0 0 number 3", target);
+    let ends = || {
+        for number in [HANGUP, INTERRUPT, TERMINATE] {
+            // SAFETY: it may be called between fork and exec, and takes these numbers.
+            unsafe { signal(number, DEFAULT) };
+        }
+        Ok(())
+    };
+    // SAFETY: nothing is done there but the above.
+    unsafe { command.pre_exec(ends) };
+    command
 }
 
 /// How often a run must be caught, and how often that is tried.
