@@ -74,12 +74,8 @@ pub fn help() -> String {
 fn settled(answer: Result<(), Refusal>) -> String {
     match answer {
         Ok(()) => "ok".to_string(),
-        Err(refusal) => refused(refusal),
+        Err(refusal) => refusal.line(),
     }
-}
-
-fn refused(refusal: Refusal) -> String {
-    format!("refused {} at {}", refusal.number, refusal.offset)
 }
 
 fn check(words: &[&[u8]]) -> Option<String> {
@@ -99,7 +95,7 @@ fn cells(words: &[&[u8]]) -> Option<String> {
     let (stream, sheet) = (bytes(stream)?, number(sheet)?);
     Some(match station::cells(&stream, sheet) {
         Ok(cells) => joined(cells),
-        Err(refusal) => refused(refusal),
+        Err(refusal) => refusal.line(),
     })
 }
 
@@ -126,7 +122,7 @@ fn profile(words: &[&[u8]]) -> Option<String> {
 fn cadence(words: &[&[u8]]) -> Option<String> {
     let [stream, row] = words else { return None };
     let answer = station::cadence(&bytes(stream)?, number(row)?);
-    Some(answer.map_or_else(refused, between))
+    Some(answer.map_or_else(|refusal| refusal.line(), between))
 }
 
 /// `pause`, or `elapsed` with ticks, turns and cadence, where `none` is no cadence.
