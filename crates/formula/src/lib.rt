@@ -292,6 +292,7 @@ fn classified_token(id: u8, depth: u8, t: &[u8]) -> Token
 }
 
 // The token that t starts with, at `offset` of the outermost bytes and inside `depth` memory tokens. Bits 5 and 6 of its byte are the operand class.
+// Only this crate and those above it call it, each with a byte at least.
 pub fn first_token(t: &[u8], offset: usize, depth: u8) -> Token
     requires { ⌜ 0 < length (now t) ⌝ }
     ensures { λ r. ⌜ r ≡ tokenOf (now (t .entry)) offset depth ⌝ }
