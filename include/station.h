@@ -45,12 +45,12 @@ enum station_refusal {
     STATION_NO_GLOBALS = 3,       /* the stream is empty, or its first record is not the BOF of the globals; offset 0 */
     STATION_BAD_SUBSTREAMS = 4,   /* the rules of how substreams start, nest, follow each other and end are broken; where the stream ends, its length */
     STATION_ENCRYPTED = 5,        /* the workbook is encrypted: FILEPASS among the globals */
-    STATION_BAD_RECORD = 6,       /* a record that is read has a wrong size or field */
+    STATION_BAD_RECORD = 6,       /* a record that is read has a wrong size or field, or a formula's text result is missing or broken */
     STATION_BAD_CONTINUE = 7,     /* a CONTINUE record has no parent to continue */
     STATION_BAD_STRINGS = 8,      /* the shared string table is broken; the offset is that of the segment being read */
     STATION_BAD_INDEX = 9,        /* a text cell's index is not below the number of shared strings */
     STATION_BAD_SHEETS = 10,      /* the sheet list and the substreams disagree; at the BOUNDSHEET, or the BOF that none names */
-    STATION_ABSENT = 11,          /* the sheet, string or cell asked for is absent; offset 0 */
+    STATION_ABSENT = 11,          /* the sheet, string or cell asked for is absent, or has no text result; offset 0 */
     STATION_NO_ROOM = 12,         /* the buffer has fewer units than the string; offset 0 */
     STATION_BAD_TOKEN = 13,       /* the formula has an unknown, cut or misplaced token, or a bad length; the offset is the token's */
     STATION_BAD_STACK = 14,       /* the formula's stack runs short, or does not end with one operand; at the token, or the formula's end */
@@ -80,6 +80,14 @@ struct station_units station_fetch(const uint8_t *stream, size_t length, uint32_
 struct station_string { bool ended; uint8_t number; size_t offset; size_t units; size_t segment; size_t at; size_t end; };
 struct station_string station_next_string(const uint8_t *stream, size_t length, size_t segment, size_t at, size_t end,
                                           uint16_t *units, size_t room);
+
+/* fetch by cell: the units of the text result of a formula, the first listed cell of the address in a sheet; 11 where there is no such
+ * cell, or it has no text result; 12 as for a string */
+struct station_units station_text(const uint8_t *stream, size_t length, uint32_t sheet, uint32_t row, uint32_t column, uint16_t *units,
+                                  size_t room);
+
+/* the same for a listed cell, without another check: field is the offset of its value field; 11 where no text result stands there */
+struct station_units station_text_at(const uint8_t *stream, size_t length, size_t field, uint16_t *units, size_t room);
 
 /* list: the sheets one after the other, from the place that station_check gives.
  * The name lies 12 bytes after header, size bytes long, width bytes a character; kind is 0 worksheet, 1 macro, 2 chart;

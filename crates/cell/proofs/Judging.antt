@@ -4,11 +4,11 @@ use mathlib.Core.Path.{_≡_, refl, sym, ap, _∙_}
 use mathlib.Core.List.{List}
 use mathlib.Core.Bool.{Bool, true, false, not}
 use native.Mathlib.Omega.{arith}
-use lib.Dec.{eqb}
-use borrow.Author.Tests.{lt-ltb, le-ltb}
+use lib.Dec.{leb, eqb}
+use borrow.Author.Tests.{lt-ltb, le-ltb, leb-true, leb-false}
 use Rattle.walk.specs.Choice.{pick}
-use Rattle.walk.proofs.Choice.{pick-true, pick-false, pick-eq, pick-ne, pick-lt, pick-nlt, pick-any}
-use Rattle.le.specs.Bytes.{u16At, numAt}
+use Rattle.walk.proofs.Choice.{never, pick-true, pick-false, pick-eq, pick-ne, pick-lt, pick-nlt, pick-le, pick-nle, pick-any, pick-by}
+use Rattle.le.specs.Bytes.{u16At, u64At, numAt}
 use Rattle.number.specs.Rk.{meansNothing}
 use Rattle.value.specs.declared.Field.{Field}
 use Rattle.value.specs.declared.Field.the-variants.{NoField, RkWord, StoredResult}
@@ -17,8 +17,9 @@ use Rattle.cell.specs.declared.Shape.{Shape}
 use Rattle.cell.specs.declared.Shape.the-variants.{LABELSST, MULBLANK, FORMULA}
 use Rattle.cell.specs.declared.Judged.{Judged}
 use Rattle.cell.specs.declared.Judged.the-variants.{Passed, Refused}
-use Rattle.cell.specs.Cells.{shapeOf, fieldOf, startOf, firstAt, sized, multiple, countOf, fieldAt, fieldsFit, judged, judgeOf}
-use Rattle.cell.proofs.Sizes.{sizeOf, size-none, size-one, formula-none, length-none, length-one, multiple-below}
+use Rattle.cell.specs.Cells.{shapeOf, fieldOf, startOf, firstAt, sized, multiple, lengthAt, countOf, fieldAt, fieldsFit, judged, judgeOf}
+use Rattle.cell.specs.Parts.{formulaSized}
+use Rattle.cell.proofs.Sizes.{sizeOf, size-none, size-one, multiple-below}
 
 one-fits : (f : Field) (s : List ℕ) (q : ℕ) → fieldsFit f s q 1 ≡ valueFits f (fieldAt f s q)
 unfolding fieldsFit pick
@@ -130,27 +131,57 @@ pub blanks-passed : (s : List ℕ) (at z u n : ℕ) → n ≡ multiple s at z 2 
 blanks-passed s at z u n is some = many-passed s MULBLANK at z u 2 n refl is some true (sym (blanks-fit s (at + 8) n)) refl refl
 
 -- ---- a formula
-module _ (s : List ℕ) (at z u : ℕ) where
-  pub formula-short : z < 22 → (x : Judged) → x ≡ Refused 6 at → x ≡ judged s FORMULA at z u
-  formula-short h x i = i ∙ wrong-size s FORMULA at z u (formula-none s at z h)
+module _ (s : List ℕ) (at z : ℕ) where
+  -- its size and its column
+  within : formulaSized s at z ≡ true → (22 + lengthAt s (at + 8) ≤ z) × (firstAt s at ≤ 255)
+  unfolding formulaSized
+  within =
+      pick-by (λ (c : Bool). c ≡ true → (22 + lengthAt s (at + 8) ≤ z) × (firstAt s at ≤ 255)) (leb (22 + lengthAt s (at + 8)) z)
+      (λ i o. (leb-true (22 + lengthAt s (at + 8)) z i, leb-true (firstAt s at) 255 o))
+      (λ _ o. never (cc))
+
+  pub sized-short : z < 22 → false ≡ formulaSized s at z
+  unfolding formulaSized
+  sized-short h = pick-nle _ _ _ (22 + lengthAt s (at + 8)) z (omega arith) refl
 
   module _ (l w : ℕ) (length : l ≡ u16At s (at + 8 + 16)) (wide : w ≡ l) where
-    pub formula-cut : z < 22 + w → (x : Judged) → x ≡ Refused 6 at → x ≡ judged s FORMULA at z u
-    formula-cut h x i = i ∙ wrong-size s FORMULA at z u (length-none s at z l w length wide h)
+    pub sized-cut : z < 22 + w → false ≡ formulaSized s at z
+    unfolding formulaSized lengthAt
+    sized-cut h = pick-nle _ _ _ (22 + lengthAt s (at + 8)) z (omega arith) refl
 
-    module _ (long : 22 + w ≤ z) (c : ℕ) (column : c ≡ u16At s (at + 6)) (limit : c ≤ 255) (v : ℕ) (read : v ≡ numAt s 8 (at + 8 + 2)) (r : Bool) (told : r ≡ valueFits StoredResult v) where
+    pub sized-by : 22 + w ≤ z → (c : ℕ) → c ≡ u16At s (at + 6) → leb c 255 ≡ formulaSized s at z
+    unfolding formulaSized lengthAt firstAt
+    sized-by h c i = pick-le _ _ _ (22 + lengthAt s (at + 8)) z (omega arith) (ap (λ (x : ℕ). leb x 255) i)
+
+pub ruleset sizing-formula = (sized-short, sized-cut, sized-by)
+
+pub result-room : (s : List ℕ) (at z : ℕ) (b : Bool) → b ≡ formulaSized s at z → b ≡ true → (m : ℕ) → at + 4 + z ≤ m → at + 10 + 8 ≤ m
+result-room s at z b is sized m l = omega (arith, within s at z (sym is ∙ sized) .0)
+
+module _ (s : List ℕ) (at z u : ℕ) (b : Bool) (is : b ≡ formulaSized s at z) where
+  unsized : formulaSized s at z ≡ false → Refused 6 at ≡ judged s FORMULA at z u
+  unfolding formulaSized
+  unsized =
+      pick-by (λ (c : Bool). c ≡ false → Refused 6 at ≡ judged s FORMULA at z u) (leb (22 + lengthAt s (at + 8)) z)
+      (λ _ o. wrong-column s FORMULA at z u (leb-false (firstAt s at) 255 o))
+      (λ i _. wrong-size s FORMULA at z u (sym (pick-false _ _ _ _ i refl)))
+
+  pub formula-unsized : b ≡ false → (x : Judged) → x ≡ Refused 6 at → x ≡ judged s FORMULA at z u
+  formula-unsized o x i = i ∙ unsized (sym is ∙ o)
+
+  module _ (sized : b ≡ true) where
+    module _ (n : ℕ) (read : n ≡ u64At s (at + 10)) (r : Bool) (told : r ≡ valueFits StoredResult n) where
       whole : 1 ≡ countOf FORMULA s at z
-      whole = sym (length-one s at z l w length wide long)
+      whole = pick-le _ _ _ (22 + lengthAt s (at + 8)) z (within s at z (sym is ∙ sized) .0) refl
 
-      column-low : firstAt s at ≤ 255
-      unfolding firstAt
-      column-low = omega arith
+      in-part : n ≡ u64At s (at + 8 + 2)
+      in-part = read ∙ ap (u64At s) (let e : at + 10 ≡ at + 8 + 2 = omega arith in e)
 
       pub formula-value : r ≡ false → (x : Judged) → x ≡ Refused 6 at → x ≡ judged s FORMULA at z u
-      formula-value o x i = i ∙ one-value s FORMULA at z u whole column-low v read (sym told ∙ o)
+      formula-value o x i = i ∙ one-value s FORMULA at z u whole (within s at z (sym is ∙ sized) .1) n in-part (sym told ∙ o)
 
       pub formula-passed : r ≡ true → Passed 1 ≡ judged s FORMULA at z u
-      formula-passed o = one-passed s FORMULA at z u whole column-low v read (sym told ∙ o) refl
+      formula-passed o = one-passed s FORMULA at z u whole (within s at z (sym is ∙ sized) .1) n in-part (sym told ∙ o) refl
 
 -- ---- a text's index
 module _ (s : List ℕ) (at z u : ℕ) (size : z ≡ 10) (c : ℕ) (column : c ≡ u16At s (at + 6)) (limit : c ≤ 255) (v : ℕ) (read : v ≡ numAt s 4 (at + 8 + 2)) where
@@ -196,4 +227,4 @@ pub ruleset judging = (size-wrong, column-wrong, single-any, single-value, singl
 
 pub ruleset judging-many = (many-none, many-wrong, many-passed, blanks-passed, many-room)
 
-pub ruleset judging-formula = (formula-short, formula-cut, column-wrong, formula-value, formula-passed)
+pub ruleset judging-formula = (formula-unsized, result-room, formula-value, formula-passed)

@@ -14,7 +14,7 @@ use Rattle.value.specs.declared.Field.{Field}
 use Rattle.value.specs.declared.Field.the-variants.{NoField, Float, RkWord, TextIndex, TruthError, StoredResult}
 use Rattle.cell.specs.declared.Shape.{Shape}
 use Rattle.cell.specs.declared.Shape.the-variants.{BLANK, NUMBER, RK, LABELSST, BOOLERR, MULRK, MULBLANK, FORMULA, OTHER}
-use Rattle.cell.specs.Cells.{fieldOf, partOf, firstAt, lastAt, sized, columns, multiple, lengthAt, countOf}
+use Rattle.cell.specs.Cells.{shapeOf, fieldOf, partOf, firstAt, lastAt, sized, columns, multiple, lengthAt, countOf}
 
 -- the size of a record that has one size only
 abbrev pub sizeOf : Shape → ℕ
@@ -77,6 +77,10 @@ module _ (s : List ℕ) (h : Shape) (at z : ℕ) (one : countOf h s at z ≡ siz
   pub size-one : z ≡ sizeOf h → countOf h s at z ≡ 1
   unfolding sized
   size-one e = one ∙ sym (pick-eq _ _ _ z (sizeOf h) e refl)
+
+pub formula-shape : shapeOf 0x0006 ≡ FORMULA
+unfolding shapeOf pick
+formula-shape = refl
 
 pub formula-none : (s : List ℕ) (at z : ℕ) → z < 22 → countOf FORMULA s at z ≡ 0
 formula-none s at z h = sym (pick-nle _ _ _ (22 + lengthAt s (at + 8)) z (omega arith) refl)

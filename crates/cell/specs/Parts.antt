@@ -1,6 +1,9 @@
 -- What only inner promises cite.
 use Prim.Native.Nat.{ℕ, _+_}
 use mathlib.Core.List.{List}
+use mathlib.Core.Bool.{Bool, false}
+use lib.Dec.{leb}
+use Rattle.walk.specs.Choice.{pick}
 use Rattle.le.specs.Bytes.{u16At}
 use Rattle.value.specs.declared.Field.{Field}
 use Rattle.value.specs.declared.CellValue.{CellValue}
@@ -8,7 +11,11 @@ use Rattle.cell.specs.declared.Tokens.{Tokens}
 use Rattle.cell.specs.declared.Cell.{Cell}
 use Rattle.cell.specs.declared.Found.{Found}
 use Rattle.cell.specs.declared.Found.the-variants.{There}
-use Rattle.cell.specs.Cells.{rowAt, firstAt}
+use Rattle.cell.specs.Cells.{rowAt, firstAt, lengthAt}
+
+-- all of a FORMULA but its stored result is right
+unfoldable pub formulaSized : List ℕ → ℕ → ℕ → Bool
+formulaSized s at z = pick (leb (22 + lengthAt s (at + 8)) z) (leb (firstAt s at) 255) false
 
 -- a cell whose part is at q, put together from what was read of it
 unfoldable pub cellWith : List ℕ → ℕ → ℕ → ℕ → Field → ℕ → CellValue → Tokens → Cell

@@ -3,7 +3,7 @@ ghost use mathlib.Core.Path.{_≡_};
 ghost use Prim.Native.Nat.{_+_, _*_, _≤_, _<_};
 ghost use lib.ListN.{length};
 ghost use Rattle.cell.specs.Cells.{shapeOf, firstAt, lastAt, sized, columns, multiple, countOf, noTokens, cellOf, foundOf, fieldsFit, judged, judgeOf};
-ghost use Rattle.cell.specs.Parts.{cellWith, singleOf};
+ghost use Rattle.cell.specs.Parts.{formulaSized, cellWith, singleOf};
 use value::CellValue;
 use value::Field;
 
@@ -217,22 +217,30 @@ fn judge_mulblank(s: &[u8], at: usize, size: usize) -> Judged
     Judged::Passed(n)
 }
 
+// Whether all of a FORMULA but its stored result is right: its size, with the tokens that it says it has, and its column.
+pub fn formula_sized(s: &[u8], at: usize, size: usize) -> bool
+    requires { ⌜ at + 4 + size ≤ length (now s) ⌝ }
+    ensures { λ r. ⌜ r ≡ formulaSized (now (s .entry)) at size ⌝ }
+{
+    if size < 22 {
+        return false;
+    }
+    let q = at + 8;
+    if size < 22 + le::u16_as_usize(le::u16_at(s, q + 16)) {
+        return false;
+    }
+    le::u16_at(s, at + 6) <= 255
+}
+
 fn judge_formula(s: &[u8], at: usize, size: usize) -> Judged
     requires { ⌜ at + 4 + size ≤ length (now s) ⌝ }
     ensures { λ r. ⌜ r ≡ judged (now (s .entry)) Shape.FORMULA at size 0 ⌝ }
 {
-    if size < 22 {
+    if formula_sized(s, at, size) {
+        if value::result_fits(le::u64_at(s, at + 10)) {
+            return Judged::Passed(1);
+        }
         return wrong(at);
-    }
-    let q = at + 8;
-    if size < 22 + le::u16_as_usize(le::u16_at(s, q + 16)) {
-        return wrong(at);
-    }
-    if 255 < le::u16_at(s, at + 6) {
-        return wrong(at);
-    }
-    if value::result_fits(le::u64_at(s, q + 2)) {
-        return Judged::Passed(1);
     }
     wrong(at)
 }

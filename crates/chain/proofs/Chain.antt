@@ -1,6 +1,6 @@
 -- The laws of chains, and of the places beside a record. Assumes nothing.
 use Prim.Native.Nat.{ℕ, zero, suc, _≤_, _<_}
-use mathlib.Core.Path.{_≡_, refl, ap, _∙_, subst}
+use mathlib.Core.Path.{_≡_, refl, sym, ap, _∙_, subst}
 use mathlib.Core.List.{List, [], _∷_}
 use mathlib.Core.Logic.{_⊎_, inl, inr}
 use native.Mathlib.Omega.{arith}
@@ -9,7 +9,9 @@ use Rattle.walk.specs.Items.{Item, gives, skips, ends, onto, collectF, collect,
 use Rattle.record.specs.declared.Header.the-variants.{Record}
 use Rattle.record.specs.Record.{headerAt}
 use Rattle.record.proofs.Laws.{whole}
-use Rattle.chain.specs.Chain.{Chain, here, on, Over, Reach, Beside, Every, Nth, first, next}
+use Rattle.cell.specs.declared.Shape.the-variants.{OTHER}
+use Rattle.cell.specs.Cells.{shapeOf}
+use Rattle.chain.specs.Chain.{Chain, here, on, Over, Plain, Reach, Beside, Every, Nth, first, next}
 
 -- ---- any steps
 module _ {Step : ℕ → ℕ → Type 0} where
@@ -76,6 +78,17 @@ module _ (s : List ℕ) where
 
     pub beside-reach : {x y : ℕ} → Reach s x y → Beside s a e x → Beside s a e y
     beside-reach q b = chain-keeps (Beside s a e) beside-past q b
+
+  -- a record that holds cells stands at a: records that hold none and are reached from before it end before it
+  module _ (a t z e : ℕ) (is : headerAt s a ≡ Record t z e) (cells : shapeOf t ≡ OTHER → ⊥) where
+    plain-before : {x y : ℕ} → Reach s x a → Chain (Plain s) x y → y ≤ a
+    plain-before r here = reach-ahead r
+    plain-before here (on h q) = let i = h .over .is in let j : h .over .type ≡ t = cc in absurd (cells (ap shapeOf (sym j) ∙ h .other))
+    plain-before (on {x = x} {e = f} i r) (on {e = g} h q) = plain-before (subst (λ (w : ℕ). Reach s w a) (over-one x f g i (h .over)) r) q
+
+    pub plain-beside : {x y : ℕ} → Beside s a e x → Chain (Plain s) x y → (y ≤ a) ⊎ (e ≤ x)
+    plain-beside (inl r) q = inl (plain-before r q)
+    plain-beside (inr l) q = inr l
 
 -- ---- lists
 pub every-nth : {A : Type 0} (P : A → Type 0) {l : List A} {n : ℕ} {x : A} → Every P l → Nth l n x → P x

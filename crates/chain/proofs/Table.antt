@@ -1,68 +1,82 @@
--- The segments of the string table are whole records, one after the other. Assumes nothing.
-use Prim.Native.Nat.{ℕ, zero, suc}
-use mathlib.Core.Path.{_≡_, refl, subst}
+-- The segments of what is read are whole records, one after the other: a record and CONTINUEs. Assumes nothing.
+use Prim.Native.Nat.{ℕ, zero, suc, _-_}
+use mathlib.Core.Path.{_≡_, refl, ap, _∙_, subst}
 use mathlib.Core.List.{List}
 use mathlib.Core.Bool.{Bool, true, false}
-use Rattle.walk.proofs.Choice.{pick-any}
-use Rattle.le.specs.Bytes.{byteAt}
+use lib.ListN.{length}
+use lib.Dec.{ltb}
+use borrow.Author.Tests.{eqb-true}
+use Rattle.walk.proofs.Choice.{never, pick-any, pick-by}
+use Rattle.le.specs.Bytes.{byteAt, u16At}
 use Rattle.record.specs.declared.Header.{Header}
 use Rattle.record.specs.declared.Header.the-variants.{Record, Cut, End}
 use Rattle.record.specs.Record.{headerAt}
+use Rattle.record.proofs.Laws.{whole}
 use Rattle.segments.specs.declared.Cursor.{Cursor}
-use Rattle.segments.specs.Segments.{Got, got, refused, then, push, on, segmentOf, nextSegment, filled, need, widthOf, enter, room, items}
+use Rattle.segments.specs.Segments.{Got, got, refused, then, push, on as onward, continues, segmentOf, nextSegment, filled, need, widthOf, enter, room, items}
 use Rattle.strings.specs.declared.Strings.{Strings}
 use Rattle.strings.specs.declared.Strings.the-variants as strings
 use Rattle.strings.specs.Table.{head, rest, stringAt, nextPlace, strings, first, tableOf, answerOf}
-use Rattle.chain.specs.Chain.{here, Reach}
-use Rattle.chain.proofs.Chain.{chain-trans, reach-one}
+use Rattle.chain.specs.Chain.{Chain, here, on, Over, Reach}
+use Rattle.chain.proofs.Chain.{chain-trans, over}
 
-module _ (s : List ℕ) where
+continue-type : (s : List ℕ) (p : ℕ) → continues s p ≡ true → u16At s p ≡ 0x003C
+unfolding continues
+continue-type s p h = pick-by (λ (b : Bool). b ≡ true → u16At s p ≡ 0x003C) (ltb (length s - p) 4) (λ _ i. never (cc)) (λ _ i. eqb-true (u16At s p) 0x003C i) h
+
+-- a CONTINUE is a step
+module _ (s : List ℕ) (Step : ℕ → ℕ → Type 0) (continue : (x z e : ℕ) → headerAt s x ≡ Record 0x003C z e → Step x e) where
   -- a reading that begins in the segment of c comes to a segment that is reached from it
-  abbrev Runs : {A : Type 0} → Cursor → Got A → Type 0
-  Runs c (got v d) = Reach s (c .end) (d .end)
+  abbrev pub Runs : {A : Type 0} → Cursor → Got A → Type 0
+  Runs c (got v d) = Chain Step (c .end) (d .end)
   Runs c (refused n o) = Unit {0}
 
-  runs-on : {A : Type 0} (c d : Cursor) (x : Got A) → Reach s (c .end) (d .end) → Runs d x → Runs c x
+  pub runs-on : {A : Type 0} (c d : Cursor) (x : Got A) → Chain Step (c .end) (d .end) → Runs d x → Runs c x
   runs-on c d (got v e) q r = chain-trans q r
   runs-on c d (refused n o) q r = tt
 
-  runs-then : {A B : Type 0} (c : Cursor) (x : Got A) (k : A → Cursor → Got B) → Runs c x → ((v : A) (d : Cursor) → Runs d (k v d)) → Runs c (then x k)
+  pub runs-then : {A B : Type 0} (c : Cursor) (x : Got A) (k : A → Cursor → Got B) → Runs c x → ((v : A) (d : Cursor) → Runs d (k v d)) → Runs c (then x k)
   runs-then c (got v d) k q f = runs-on c d (k v d) q (f v d)
   runs-then c (refused n o) k q f = tt
 
-  runs-push : {A : Type 0} (c : Cursor) (v : A) (x : Got (List A)) → Runs c x → Runs c (push v x)
+  pub runs-push : {A : Type 0} (c : Cursor) (v : A) (x : Got (List A)) → Runs c x → Runs c (push v x)
   runs-push c v (got l d) r = r
   runs-push c v (refused n o) r = tt
 
-  runs-segment : (n : ℕ) (c : Cursor) (h : Header) → headerAt s (c .end) ≡ h → Runs c (segmentOf n (c .end) h)
-  runs-segment n c (Record t z e) h = pick-any (Runs c) _ tt (reach-one s h)
-  runs-segment n c Cut h = tt
-  runs-segment n c End h = tt
+  runs-segment : (n : ℕ) (c : Cursor) → u16At s (c .end) ≡ 0x003C → (h : Header) → headerAt s (c .end) ≡ h → Runs c (segmentOf n (c .end) h)
+  runs-segment n c i (Record t z e) h =
+      let w = whole s (c .end) t z e h in
+      let j : t ≡ 0x003C = w .kind ∙ i in
+      pick-any (Runs c) _ tt (on (continue (c .end) z e (h ∙ ap (λ (k : ℕ). Record k z e) j)) here)
+  runs-segment n c i Cut h = tt
+  runs-segment n c i End h = tt
 
-  runs-next : (n : ℕ) (c : Cursor) → Runs c (nextSegment n s c)
+  pub runs-next : (n : ℕ) (c : Cursor) → Runs c (nextSegment n s c)
   unfolding nextSegment
-  runs-next n c = pick-any (Runs c) _ (runs-segment n c (headerAt s (c .end)) refl) tt
+  runs-next n c = pick-by (Runs c) (continues s (c .end)) (λ i. runs-segment n c (continue-type s (c .end) i) (headerAt s (c .end)) refl) (λ _. tt)
 
-  runs-filled : (n : ℕ) (c : Cursor) → Runs c (filled n s c)
+  pub runs-filled : (n : ℕ) (c : Cursor) → Runs c (filled n s c)
   unfolding filled
   runs-filled n c = pick-any (Runs c) _ (pick-any (Runs c) _ (runs-then c (nextSegment n s c) _ (runs-next n c) (λ v d. tt)) here) tt
 
-  runs-need : (n w : ℕ) (c : Cursor) → Runs c (need n w c)
+  pub runs-need : (n w : ℕ) (c : Cursor) → Runs c (need n w c)
   unfolding need
   runs-need n w c = pick-any (Runs c) _ tt here
 
   runs-enter : (n : ℕ) (f : Bool) (w : ℕ) (c : Cursor) → Runs c (enter n s f w c)
-  runs-enter n true w c = runs-on c (on c 1) (need n (widthOf (byteAt s (c .at))) (on c 1)) here (runs-need n (widthOf (byteAt s (c .at))) (on c 1))
+  runs-enter n true w c = runs-on c (onward c 1) (need n (widthOf (byteAt s (c .at))) (onward c 1)) here (runs-need n (widthOf (byteAt s (c .at))) (onward c 1))
   runs-enter n false w c = runs-need n w c
 
   runs-room : (n : ℕ) (f : Bool) (w : ℕ) (c : Cursor) → Runs c (room n s f w c)
   unfolding room
   runs-room n f w c = pick-any (Runs c) _ (runs-then c (nextSegment n s c) _ (runs-next n c) (λ v d. runs-enter n f w d)) (runs-need n w c)
 
-  runs-items : (n : ℕ) (f : Bool) (w k : ℕ) (c : Cursor) → Runs c (items n s f w k c)
+  pub runs-items : (n : ℕ) (f : Bool) (w k : ℕ) (c : Cursor) → Runs c (items n s f w k c)
   unfolding items
   runs-items n f w zero c = here
-  runs-items n f w (suc k) c = runs-then c (room n s f w c) _ (runs-room n f w c) (λ v d. runs-push d _ (items n s f v k (on d v)) (runs-on d (on d v) (items n s f v k (on d v)) here (runs-items n f v k (on d v))))
+  runs-items n f w (suc k) c =
+      runs-then c (room n s f w c) _ (runs-room n f w c)
+      (λ v d. runs-push d _ (items n s f v k (onward d v)) (runs-on d (onward d v) (items n s f v k (onward d v)) here (runs-items n f v k (onward d v))))
 
   runs-head : (c : Cursor) → Runs c (head s c)
   unfolding head
@@ -93,14 +107,19 @@ module _ (s : List ℕ) where
       pick-any (Runs (first p e)) _ tt
       (runs-then (first p e) (strings s _ (first p e)) _ (runs-strings _ (first p e)) (λ l c. runs-then c (filled 8 s c) _ (runs-filled 8 c) (λ v d. here)))
 
+-- ---- the string table
+module _ (s : List ℕ) where
   abbrev Ends : ℕ → Strings → Type 0
   Ends e (strings.Table n o) = Reach s e o
   Ends e (strings.Refused n o) = Unit {0}
 
-  ends-answer : (p e : ℕ) (x : Got (List Cursor)) → Runs (first p e) x → Ends e (answerOf x)
+  abbrev Ran : {A : Type 0} → Cursor → Got A → Type 0
+  Ran c x = Runs s (Over s) (λ x z e h. over s h) c x
+
+  ends-answer : (p e : ℕ) (x : Got (List Cursor)) → Ran (first p e) x → Ends e (answerOf x)
   ends-answer p e (got l c) r = r
   ends-answer p e (refused n o) r = tt
 
   -- the table's end is reached from the end of its SST
   pub table-reach : (p e n o : ℕ) → answerOf (tableOf s p e) ≡ strings.Table n o → Reach s e o
-  table-reach p e n o h = subst (Ends e) h (ends-answer p e (tableOf s p e) (runs-table p e))
+  table-reach p e n o h = subst (Ends e) h (ends-answer p e (tableOf s p e) (runs-table s (Over s) (λ x z e h. over s h) p e))

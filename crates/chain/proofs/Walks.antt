@@ -16,6 +16,8 @@ use Rattle.record.proofs.Laws.{whole}
 use Rattle.cell.specs.declared.Judged.{Judged}
 use Rattle.cell.specs.declared.Judged.the-variants as judged
 use Rattle.cell.specs.Cells.{shapeOf, judgeOf}
+use Rattle.segments.specs.Segments.{Got, got, refused}
+use Rattle.textresult.specs.TextResult.{textOf}
 use Rattle.strings.specs.declared.Strings.{Strings}
 use Rattle.strings.specs.declared.Strings.the-variants as strings
 use Rattle.strings.specs.Table.{tableOf, answerOf}
@@ -31,12 +33,13 @@ use Rattle.substream.specs.declared.Step.{Step}
 use Rattle.substream.specs.declared.Step.the-variants.{More, Open, Close, Stop}
 use Rattle.substream.specs.declared.Ended.{Ended}
 use Rattle.substream.specs.declared.Ended.the-variants.{At, Refused}
-use Rattle.substream.specs.Substream.{past, pastParent, versionAt, innerBof, otherRecord, dimensionsRecord, onJudged, recordIn, onHeader, stepOf, back, turn, recordsFrom, substreamIn}
+use Rattle.substream.specs.Substream.{past, pastParent, versionAt, innerBof, otherRecord, dimensionsRecord, onText, passedRecord, onJudged, recordIn, onHeader, stepOf, back, turn, recordsFrom, substreamIn}
 use Rattle.substream.proofs.Laws.{Inner, Onward, go, left, falls, onward}
 use Rattle.chain.specs.Chain.{here, on, Over, Reach}
 use Rattle.chain.specs.Tops.{GlobalsReach, SubstreamReach}
 use Rattle.chain.proofs.Chain.{chain-trans, over, reach-one}
 use Rattle.chain.proofs.Table.{table-reach}
+use Rattle.chain.proofs.Text.{text-chain, plain-reach}
 
 -- ---- the globals
 abbrev pub Going : List ℕ → Globals → GlobalsStep → Type 0
@@ -104,9 +107,9 @@ globals-reach s u g h = by (headerAt s 0) h
     by End i = never (cc)
 
 -- ---- a substream
--- what a step leads to: past the record at v, or into a BOF there
+-- what a step leads to: past the record at v, and the text result of a formula there, or into a BOF there
 abbrev pub Leads : List ℕ → Here → Step → Type 0
-Leads s v (More w) = Over s (v .at) (w .at)
+Leads s v (More w) = Reach s (v .at) (w .at)
 Leads s v (Open b) = (b ≡ v .at) × Over s (v .at) (v .at + 20)
 Leads s v (Close e) = Over s (v .at) e
 Leads s v (Stop n o) = Unit {0}
@@ -126,14 +129,18 @@ module _ (s : List ℕ) (k u : ℕ) (v : Here) (t z e : ℕ) (h : headerAt s (v 
   leads-other : Leads s v (otherRecord s k v t z e)
   unfolding otherRecord
   leads-other =
-      let r = over s h in
-      pick-any (Leads s v) _ leads-bof (pick-any (Leads s v) _ (pick-any (Leads s v) _ r tt) (pick-any (Leads s v) _ (pick-any (Leads s v) _ tt r) r))
+      let r = reach-one s h in
+      pick-any (Leads s v) _ leads-bof (pick-any (Leads s v) _ (pick-any (Leads s v) _ (over s h) tt) (pick-any (Leads s v) _ (pick-any (Leads s v) _ tt r) r))
+
+  leads-text : (x : Got (List ℕ)) → textOf s (v .at) e ≡ x → Leads s v (onText x)
+  leads-text (got us c) i = on (over s h) (plain-reach s (text-chain s (v .at) e us c i))
+  leads-text (refused n o) i = tt
 
   leads-judged : (x : Judged) → Leads s v (onJudged s k v t z e x)
-  unfolding dimensionsRecord
-  leads-judged (judged.Passed n) = over s h
+  unfolding dimensionsRecord passedRecord
+  leads-judged (judged.Passed n) = pick-any (Leads s v) _ (leads-text (textOf s (v .at) e) refl) (reach-one s h)
   leads-judged (judged.Refused n o) = tt
-  leads-judged judged.Other = pick-any (Leads s v) _ (pick-any (Leads s v) _ (over s h) tt) leads-other
+  leads-judged judged.Other = pick-any (Leads s v) _ (pick-any (Leads s v) _ (reach-one s h) tt) (pick-any (Leads s v) _ tt leads-other)
 
   leads-record : Leads s v (recordIn s k u v t z e)
   unfolding recordIn
@@ -155,7 +162,7 @@ module _ (inner : Inner) (s : List ℕ) (onward : Onward inner s) (reach : (b e 
   reach-back v w (Refused n o) i q h = never (cc)
 
   pub reach-more : (v w : Here) (x : Step) → Leads s v x → turn inner x ≡ more w → Reach s (v .at) (w .at)
-  reach-more v w (More y) l h = let j : _≡_ {A = Here} y w = cc in subst (λ (y : Here). Reach s (v .at) (y .at)) j (on l here)
+  reach-more v w (More y) l h = let j : _≡_ {A = Here} y w = cc in subst (λ (y : Here). Reach s (v .at) (y .at)) j l
   reach-more v w (Open b) l h = reach-back v w (inner (v .at)) refl (l .1) (ap (λ (c : ℕ). back (inner c)) (sym (l .0)) ∙ h)
   reach-more v w (Close e) l h = never (cc)
   reach-more v w (Stop n o) l h = never (cc)

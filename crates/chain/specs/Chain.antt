@@ -5,6 +5,8 @@ use mathlib.Core.List.{List, [], _∷_}
 use mathlib.Core.Logic.{_⊎_}
 use Rattle.record.specs.declared.Header.the-variants.{Record}
 use Rattle.record.specs.Record.{headerAt}
+use Rattle.cell.specs.declared.Shape.the-variants.{OTHER}
+use Rattle.cell.specs.Cells.{shapeOf}
 pub use Rattle.reading.specs.Claims.{Every}
 
 -- y is reached from x by steps
@@ -17,6 +19,13 @@ pub record Over (s : List ℕ) (x e : ℕ) : Type 0 where
   pub type : ℕ
   pub size : ℕ
   pub is : headerAt s x ≡ Record type size e
+
+-- one that holds no cell, and opens or closes no substream
+pub record Plain (s : List ℕ) (x e : ℕ) : Type 0 where
+  pub over : Over s x e
+  pub other : shapeOf (over .type) ≡ OTHER
+  pub no-bof : over .type ≡ 0x0809 → ⊥
+  pub no-eof : over .type ≡ 0x000A → ⊥
 
 -- y is reached from x by stepping over whole records
 abbrev pub Reach : List ℕ → ℕ → ℕ → Type 0

@@ -47,9 +47,9 @@ use Rattle.chain.proofs.Chain.{nth-is, nth-missing, nth-either}
 use Rattle.upheld.specs.Granted.{Granted}
 use Rattle.upheld.proofs.Granted.{granted, listed-only, field-high}
 use Rattle.upheld.proofs.Upheld.{upheld, sheets-stay}
-use Rattle.reread.specs.Replaced.{hasAddress, replacedCell, replacedSheet, onNth, valuesAt}
+use Rattle.reread.specs.Replaced.{hasAddress, withValue, replacedCell, replacedSheet, onNth, valuesAt}
 use Rattle.reread.proofs.Reading.{reads-replaced, new-after}
-use Rattle.claims.specs.Demand3.{Corrects, Only, One, HoldsNew, OthersStay, passed, Passes, ReadsNew, OneAfter, Spot, spotOf, spotsOf, SpotsStay, takes, Unfit, Refusal, checked, no-sheet, no-cell, many, kind, value, RefusedExactly, RefusedKeeps, PackedExactly}
+use Rattle.claims.specs.Demand3.{Corrects, Only, One, HoldsNew, OthersStay, passed, Passes, ReadsNew, OneAfter, Granted as OfGranted, spotOf, ofCells, SpotsStay, textOf, TextsStay, takes, Unfit, Refusal, checked, no-sheet, no-cell, many, kind, value, RefusedExactly, RefusedKeeps, PackedExactly}
 
 -- ---- a granted correction: what was written, and into which cell
 record Made (s : List ℕ) (n row column : ℕ) (v : NewValue) (t : List ℕ) : Type 0 where
@@ -121,28 +121,35 @@ one-after s n row column v t h =
     let m = made h in
     one m (ap (λ (x : List ℕ). valuesAt n row column (readingOf x)) (m .after) ∙ new-after s n row column v (m .kind) (m .place) (m .number) (h .held) (m .is))
 
--- what is replaced is a value
-spots-cells : (row column : ℕ) (v : CellValue) (l : List CellReading) → map spotOf (map (replacedCell row column v) l) ≡ map spotOf l
-spots-cells row column v [] = refl
-spots-cells row column v (c ∷ l) =
-    ap₂ (λ (x : Spot) (y : List Spot). x ∷ y)
-    (pick-by (λ (d : CellReading). spotOf d ≡ spotOf c) (hasAddress row column c) (λ _. refl) (λ _. refl)) (spots-cells row column v l)
+-- what is replaced is a value: whatever else is said of a cell stays
+module _ {A : Type 0} (f : CellReading → A) (same : (v : CellValue) (c : CellReading) → f (withValue v c) ≡ f c) where
+  cells-stay : (row column : ℕ) (v : CellValue) (l : List CellReading) → map f (map (replacedCell row column v) l) ≡ map f l
+  cells-stay row column v [] = refl
+  cells-stay row column v (c ∷ l) =
+      ap₂ (λ (x : A) (y : List A). x ∷ y)
+      (pick-by (λ (d : CellReading). f d ≡ f c) (hasAddress row column c) (λ _. same v c) (λ _. refl)) (cells-stay row column v l)
 
-spots-sheets : (n row column : ℕ) (v : CellValue) (l : List SheetReading) → spotsOf (onNth n (replacedSheet row column v) l) ≡ spotsOf l
-unfolding onNth
-spots-sheets n row column v [] = refl
-spots-sheets zero row column v (x ∷ l) = ap (λ (y : List Spot). y ∷ spotsOf l) (spots-cells row column v (x .cells))
-spots-sheets (suc n) row column v (x ∷ l) = ap (λ (y : List (List Spot)). map spotOf (x .cells) ∷ y) (spots-sheets n row column v l)
+  sheets-same : (n row column : ℕ) (v : CellValue) (l : List SheetReading) → ofCells f (onNth n (replacedSheet row column v) l) ≡ ofCells f l
+  unfolding onNth
+  sheets-same n row column v [] = refl
+  sheets-same zero row column v (x ∷ l) = ap (λ (y : List A). y ∷ ofCells f l) (cells-stay row column v (x .cells))
+  sheets-same (suc n) row column v (x ∷ l) = ap (λ (y : List (List A)). map f (x .cells) ∷ y) (sheets-same n row column v l)
+
+  all-stay : OfGranted (λ s n row column v c t. ofCells f (readingOf t .sheets) ≡ ofCells f (readingOf s .sheets))
+  all-stay s n row column v t h =
+      let read = reads-new s n row column v t h in
+      record {
+        cell = read .cell;
+        unique = read .unique;
+        only = read .only;
+        holds = ap (λ (r : Reading). ofCells f (r .sheets)) (read .holds) ∙ sheets-same n row column (newOf v) (readingOf s .sheets);
+      }
 
 pub spots-stay : SpotsStay
-spots-stay s n row column v t h =
-    let read = reads-new s n row column v t h in
-    record {
-      cell = read .cell;
-      unique = read .unique;
-      only = read .only;
-      holds = ap (λ (r : Reading). spotsOf (r .sheets)) (read .holds) ∙ spots-sheets n row column (newOf v) (readingOf s .sheets);
-    }
+spots-stay = all-stay spotOf (λ _ _. refl)
+
+pub texts-stay : TextsStay
+texts-stay = all-stay textOf (λ _ _. refl)
 
 -- ---- refused exactly when the table says
 -- which row a plan meets, where t says that the kind takes the value and U that it doesn't fit

@@ -94,11 +94,19 @@ pub record Spot : Type 0 where
 abbrev pub spotOf : CellReading → Spot
 spotOf c = record { row = c .row; column = c .column; format = c .format; place = c .place }
 
-abbrev pub spotsOf : List SheetReading → List (List Spot)
-spotsOf l = map (λ (x : SheetReading). map spotOf (x .cells)) l
+-- of each cell of each sheet
+abbrev pub ofCells : {A : Type 0} → (CellReading → A) → List SheetReading → List (List A)
+ofCells f l = map (λ (x : SheetReading). map f (x .cells)) l
 
 abbrev pub SpotsStay : Type 0
-SpotsStay = Granted (λ s n row column v c t. spotsOf (readingOf t .sheets) ≡ spotsOf (readingOf s .sheets))
+SpotsStay = Granted (λ s n row column v c t. ofCells spotOf (readingOf t .sheets) ≡ ofCells spotOf (readingOf s .sheets))
+
+-- the units of the text results stay for all cells of all sheets, in order
+abbrev pub textOf : CellReading → List ℕ
+textOf c = c .text
+
+abbrev pub TextsStay : Type 0
+TextsStay = Granted (λ s n row column v c t. ofCells textOf (readingOf t .sheets) ≡ ofCells textOf (readingOf s .sheets))
 
 -- ---- a correction is refused exactly when the table says
 -- a number goes to NUMBER, RK or MULRK, a text index to LABELSST, truth or error to BOOLERR

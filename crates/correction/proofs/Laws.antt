@@ -21,7 +21,7 @@ use Rattle.value.specs.Value.{widthOf}
 use Rattle.cell.specs.declared.Shape.{Shape}
 use Rattle.cell.specs.declared.Shape.the-variants.{BLANK, NUMBER, RK, LABELSST, BOOLERR, MULRK, MULBLANK, FORMULA, OTHER}
 use Rattle.cell.specs.declared.Cell.{Cell}
-use Rattle.cell.specs.Cells.{shapeOf, fieldOf, partOf, startOf, rowAt, firstAt, sized, multiple, lengthAt, countOf, cellFrom, cellsFrom, cellsOf}
+use Rattle.cell.specs.Cells.{shapeOf, fieldOf, partOf, startOf, rowAt, firstAt, sized, multiple, lengthAt, countOf, cellFrom, cellsFrom, cellsOf, cellOf}
 use Rattle.cell.proofs.Sizes.{sized-below, multiple-below}
 use Rattle.change.specs.declared.NewValue.{NewValue}
 use Rattle.change.specs.declared.Plan.{Plan}
@@ -152,6 +152,24 @@ module _ (s : List ℕ) (at id here first n next row column : ℕ) (w : Row s at
   missed (inr (inl h)) = let f = w .first-is in columns-else row column field s (rowAt s at) (listedFrom s (placeAt next 0)) (countOf (shapeOf id) s at (w .size)) (firstAt s at) (at + 8) (inl (omega arith))
   missed (inr (inr h)) = let f = w .first-is in let c = w .count in columns-else row column field s (rowAt s at) (listedFrom s (placeAt next 0)) (countOf (shapeOf id) s at (w .size)) (firstAt s at) (at + 8) (inr (omega arith))
 
+  -- the record has the address, or not
+  pub hit-below : inRow here first n row column ≡ true → column - first < countOf (shapeOf id) s at (w .size)
+  hit-below h = let a = row-holds here first n row column h in let c = w .count in omega arith
+
+  pub hit-row : inRow here first n row column ≡ true → cellsAt row column (listedFrom s (placeAt at 0)) ≡ cellOf s field at (column - first) ∷ after
+  unfolding cellOf
+  hit-row h =
+      let a = row-holds here first n row column h in
+      let f = w .first-is in
+      let c = w .count in
+      let e : column ≡ firstAt s at + (column - first) = omega arith in
+      of-record
+      ∙ cell-met row column field s (rowAt s at) (listedFrom s (placeAt next 0)) (countOf (shapeOf id) s at (w .size)) (firstAt s at) (at + 8) (column - first) (sym (w .row-is) ∙ a .0) (omega arith) (omega arith)
+      ∙ ap (λ (x : ℕ). cellFrom field s (rowAt s at) x (at + 8 + (column - first) * partOf field) ∷ after) e
+
+  pub miss-row : inRow here first n row column ≡ false → cellsAt row column (listedFrom s (placeAt at 0)) ≡ after
+  miss-row h = of-record ∙ missed (no-address h)
+
   met-by : (found : Target) (b : Bool) → inRow here first n row column ≡ b → joined found (cellsAt row column (cells ++ listedFrom s (placeAt next 0))) ≡ joined (pick b (withOne found (fieldOfCell id at (column - first))) found) after
   unfolding pick fieldOfCell cellFrom
   met-by found true h =
@@ -281,7 +299,7 @@ find-start s from row column = (refl, tt)
 pub ruleset find-laws = (find-start, row-less, row-few, row-low, row-again, next-less, next-again, found-all)
 
 -- ---- the aim
-start-place : (len p k : ℕ) → placeAt (startBy len p k .at) 0 ≡ startBy len p k
+pub start-place : (len p k : ℕ) → placeAt (startBy len p k .at) 0 ≡ startBy len p k
 unfolding startBy placeAt
 start-place len p k = pick-any (λ (x : Place). placeAt (x .at) 0 ≡ x) (eqb k 1) refl refl
 

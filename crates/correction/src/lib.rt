@@ -87,7 +87,8 @@ fn field_at(id: u16, at: usize, k: usize) -> Target
     Target::One { kind, field }
 }
 
-fn in_row(here: u16, first: u16, count: u16, row: u32, column: u32) -> bool
+// Whether a row of so many cells from a column on has the address.
+pub fn in_row(here: u16, first: u16, count: u16, row: u32, column: u32) -> bool
     requires { ⌜ count ≤ 256 ⌝ }
     ensures { λ r. ⌜ r ≡ inRow here first count row column ⌝ }
 {

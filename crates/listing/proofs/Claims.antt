@@ -104,7 +104,18 @@ module _ (s : List ℕ) where
   unfolding tokensIn
   cell-given v w c h =
       let k : TokensIn s c = subst (TokensAfter s) h (next-tokens s v) in
-      record { cell = c; next = h; row = refl; column = refl; value = refl; format = refl; place = refl; tokens = sym (pick-le _ _ _ _ _ k refl); trailing = refl }
+      record {
+        cell = c;
+        next = h;
+        row = refl;
+        column = refl;
+        value = refl;
+        format = refl;
+        place = refl;
+        tokens = sym (pick-le _ _ _ _ _ k refl);
+        trailing = refl;
+        text = refl;
+      }
 
   cells-by : (l : List Cell) (v : Place) (r : Listed) → nextOf s v ≡ r → l ≡ onListed s r → CellsGiven s v (map (cellReading s) l)
   cells-by [] v (listed.Cell c w) i e = never (cc)

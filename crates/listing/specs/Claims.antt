@@ -6,14 +6,15 @@ use Rattle.walk.specs.Items.{nth, Lists}
 use Rattle.cell.specs.declared.Cell.{Cell}
 use Rattle.reading.specs.declared.Place.{Place}
 use Rattle.reading.specs.Cells.{listedFrom}
-use Rattle.reading.specs.Reading.{CellReading, SheetReading, readingOf, nameAt, rowsOf, trailingBytes}
+use Rattle.reading.specs.Reading.{CellReading, SheetReading, readingOf, nameAt, rowsOf, unitsOf, trailingBytes}
 use Rattle.listing.specs.declared.NextSheet.the-variants as nextSheet
 use Rattle.listing.specs.declared.Start.the-variants as start
 use Rattle.listing.specs.declared.Listed.the-variants as listed
 use Rattle.listing.specs.Listing.{firstSheet, nextSheetOf, cellsOf, nextOf, tokensIn}
 
 -- ---- the cells of a sheet
--- from v, `next_cell` gives the cell x and the place w; `tokens` gives its tokens and `trailing_bytes` the bytes after them
+-- from v, `next_cell` gives the cell x and the place w; `tokens` gives its tokens and `trailing_bytes` the bytes after them. The units of its text result
+-- are those of the cell, which `textresult::text_at` gives from its place (`reread` `TextsRead`)
 pub record CellGiven (s : List ℕ) (v : Place) (x : CellReading) (w : Place) : Type 0 where
   pub cell : Cell
   pub next : nextOf s v ≡ listed.Cell cell w
@@ -24,6 +25,7 @@ pub record CellGiven (s : List ℕ) (v : Place) (x : CellReading) (w : Place) : 
   pub place : cell .field ≡ x .place
   pub tokens : tokensIn s cell ≡ x .tokens
   pub trailing : trailingBytes s cell ≡ x .trailing
+  pub text : unitsOf s cell ≡ x .text
 
 -- from v on, these cells, in order, and then the end
 abbrev pub CellsGiven : List ℕ → Place → List CellReading → Type 0

@@ -1,7 +1,8 @@
 -- The reading of a stream: in order, each sheet's name, width, type, row count and listed cells (row, column, value, a formula's tokens and the bytes after them,
--- format index, and the offset of the value field or, for a blank, of the format), and each shared string's units.
+-- format index, the offset of the value field or, for a blank, of the format, and the units of its text result), and each shared string's units.
 use Prim.Native.Nat.{ℕ, _+_, _-_, max}
 use mathlib.Core.List.{List, [], _∷_, map}
+use mathlib.Core.Bool.{Bool, true, false}
 use lib.ListN.{length, take, drop}
 use lib.Dec.{ltb, eqb}
 use Rattle.walk.specs.Choice.{pick}
@@ -9,9 +10,11 @@ use Rattle.le.specs.Bytes.{byteAt, u16At}
 use Rattle.record.specs.declared.Header.{Header}
 use Rattle.record.specs.declared.Header.the-variants.{Record, Cut, End}
 use Rattle.record.specs.Record.{headerAt}
-use Rattle.segments.specs.Segments.{widthOf}
+use Rattle.segments.specs.Segments.{listOf, widthOf}
 use Rattle.strings.specs.Table.{stringsOf}
 use Rattle.value.specs.declared.CellValue.{CellValue}
+use Rattle.value.specs.declared.CellValue.the-variants.{Blank, Number, NotNumber, Text, Truth, Error, Formula}
+use Rattle.textresult.specs.TextResult.{isText, textOf}
 use Rattle.cell.specs.declared.Cell.{Cell}
 use Rattle.cell.specs.declared.Tokens.{Tokens}
 use Rattle.cell.specs.Cells.{tokensOf}
@@ -64,6 +67,29 @@ abbrev pub onGlobals : List ℕ → Ended → List (List ℕ)
 onGlobals s (globals.At g) = stringsAt s (g .table)
 onGlobals s (globals.Refused n o) = []
 
+-- ---- the text result of a formula
+abbrev pub saysText : CellValue → Bool
+saysText Blank = false
+saysText (Number x) = false
+saysText (NotNumber b) = false
+saysText (Text i) = false
+saysText (Truth t) = false
+saysText (Error e) = false
+saysText (Formula r) = isText r
+
+-- the units of that of the FORMULA whose header is at f
+abbrev pub onFormula : List ℕ → ℕ → Header → List ℕ
+onFormula s f (Record t z e) = listOf (textOf s f e)
+onFormula s f Cut = []
+onFormula s f End = []
+
+unfoldable pub textAfter : List ℕ → ℕ → List ℕ
+textAfter s f = onFormula s f (headerAt s f)
+
+-- of a cell: a formula's value field starts 10 bytes past its header; a cell without a text result has no units
+unfoldable pub unitsOf : List ℕ → Cell → List ℕ
+unitsOf s c = pick (saysText (c .value)) (textAfter s (c .field - 10)) []
+
 -- ---- the whole
 -- the bytes of a formula's record after its tokens, to its end. The tokens start 26 bytes after its header, whose size stands 2 bytes on
 unfoldable pub trailingSize : List ℕ → Tokens → ℕ
@@ -80,6 +106,7 @@ pub record CellReading : Type 0 where
   pub trailing : List ℕ
   pub format : ℕ
   pub place : ℕ
+  pub text : List ℕ
 
 pub record SheetReading : Type 0 where
   pub name : List ℕ
@@ -101,6 +128,7 @@ cellReading s c = record {
   trailing = trailingBytes s c;
   format = c .format;
   place = c .field;
+  text = unitsOf s c;
 }
 
 abbrev pub sheetReading : List ℕ → Sheet → SheetReading

@@ -77,6 +77,9 @@ module _ (s : List ℕ) (at k z e : ℕ) where
   pub body-within : {r : Header} → r ≡ headerAt s at → r ≡ Record k z e → at + 4 + z ≤ length s
   body-within is h = let w : Whole s at k z e = whole (sym is ∙ h) in omega arith
 
+  pub end-within : {r : Header} → r ≡ headerAt s at → r ≡ Record k z e → e ≤ length s
+  end-within is h = whole (sym is ∙ h) .within
+
   pub body-end : {r : Header} → r ≡ headerAt s at → r ≡ Record k z e → e ≡ at + 4 + z
   body-end is h = whole (sym is ∙ h) .end
 

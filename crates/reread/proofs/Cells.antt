@@ -8,24 +8,33 @@ use native.Mathlib.Omega.{arith}
 use lib.ListN.{length}
 use lib.Dec.{eqb}
 use borrow.Author.Tests.{eqb-true, eqb-false}
-use Rattle.walk.proofs.Choice.{pick-any, pick-by}
+use Rattle.walk.specs.Choice.{pick}
+use Rattle.walk.proofs.Choice.{pick-any, pick-by, pick-false, pick-same}
+use Rattle.le.proofs.Laws.{Same}
 use Rattle.record.proofs.Laws.{whole}
 use Rattle.value.specs.declared.CellValue.{CellValue}
 use Rattle.cell.specs.declared.Cell.{Cell}
-use Rattle.cell.specs.Cells.{shapeOf, fieldOf, cellOf, tokensOf}
+use Rattle.cell.specs.Cells.{shapeOf, fieldOf, partOf, fieldAt, cellFrom, cellOf, tokensOf}
+use Rattle.kept.specs.Claims.{revalued}
+use Rattle.segments.specs.Segments.{Got, got, refused, listOf}
+use Rattle.segments.specs.Parts.{Passes}
+use Rattle.textresult.specs.TextResult.{hasText, textOf}
+use Rattle.textresult.proofs.Local.{text-same}
 use Rattle.sheetlist.specs.Agreement.{Sheet}
 use Rattle.globals.specs.declared.Globals.{Globals}
 use Rattle.reading.specs.declared.Place.{Place}
 use Rattle.reading.specs.Cells.{placeAt, cellItem, remaining, listedFrom}
-use Rattle.reading.specs.Reading.{startBy, listedOf, rowsOf, trailingBytes, CellReading, cellReading}
+use Rattle.reading.specs.Reading.{startBy, listedOf, rowsOf, trailingBytes, saysText, onFormula, textAfter, unitsOf, CellReading, cellReading}
+use Rattle.reading.proofs.Texts.{field-silent, field-of, says-is, has-formula}
 use Rattle.chain.specs.Chain.{Reach, Beside, Every}
 use Rattle.chain.specs.Tops.{SheetStands}
-use Rattle.chain.proofs.Chain.{over, beside-cases, beside-reach}
+use Rattle.chain.proofs.Chain.{over, reach-one, beside-cases, beside-reach, plain-beside}
+use Rattle.chain.proofs.Text.{text-chain}
 use Rattle.upheld.specs.Granted.{Listed}
 use Rattle.reread.specs.Replaced.{withValue}
 use Rattle.reread.specs.Parts.{fieldFrom, Corrected, written, ListedTo}
-use Rattle.reread.proofs.Fields.{places-differ, same-record}
-use Rattle.reread.proofs.Records.{Stands, kept-item}
+use Rattle.reread.proofs.Fields.{places-differ, inside, ends-in, same-before, same-after, same-record, header-kept}
+use Rattle.reread.proofs.Records.{Stands, no-count, kept-item}
 use Rattle.upheld.proofs.Granted.{listed-here, listed-field}
 use Rattle.reread.proofs.Found.{sheet-start, listed-none}
 use Rattle.reread.proofs.Lists.{map-every, map-map, collect-map}
@@ -78,7 +87,7 @@ module _ {s s′ : List ℕ} {a t z e k : ℕ} {v : CellValue} (c : Corrected s 
         ∙ sym (map-map (cellReading s) f (listedOf s x))
 
   -- ---- each cell
-  module _ (from : ℕ) (d : Cell) (i : Listed s from d) (near : Near from) where
+  module _ (from : ℕ) (d : Cell) (i : Listed s from d) (near : Near from) (text : hasText s (i .type) (i .at) ≡ true → Passes (textOf s (i .at) (i .end))) where
     near-cell : Near (i .at)
     near-cell = near-reach (i .reached) near
 
@@ -87,6 +96,36 @@ module _ {s s′ : List ℕ} {a t z e k : ℕ} {v : CellValue} (c : Corrected s 
 
     trailing-of : trailingBytes s′ d ≡ trailingBytes s d
     trailing-of = trailing-written c (i .at) (i .type) (i .size) (i .end) (i .part) d (i .header) (listed-here i .below) (listed-here i .cell) near-cell
+
+    -- its text result stands in plain records, and so not in the one that was written
+    text-same-by : (x : Got (List ℕ)) → textOf s (i .at) (i .end) ≡ x → Passes x → textOf s′ (i .at) (i .end) ≡ textOf s (i .at) (i .end)
+    text-same-by (got us g) q p = text-same s s′ (c .size) (i .at) (i .end) us g q (by (plain-beside s a t z e (c .whole) (no-count s t a z k (c .below)) (near-reach (reach-one s (i .header)) near-cell) (text-chain s (i .at) (i .end) us g q))) ∙ sym q
+      where
+        by : (g .end ≤ a) ⊎ (e ≤ i .end) → Same s s′ (i .end) (g .end + 2)
+        by (inl l) = let w = inside c in same-before c (i .end) (g .end + 2) (omega arith)
+        by (inr l) = let w = ends-in c in same-after c (i .end) (g .end + 2) (omega arith)
+    text-same-by (refused n o) q p = absurd p
+
+    text-after : hasText s (i .type) (i .at) ≡ true → textAfter s′ (i .at) ≡ textAfter s (i .at)
+    unfolding textAfter
+    text-after h =
+        ap (onFormula s′ (i .at)) (sym (header-kept c (i .at) near-cell) ∙ i .header)
+        ∙ ap listOf (text-same-by (textOf s (i .at) (i .end)) refl (text h))
+        ∙ ap (onFormula s (i .at)) (sym (i .header))
+
+    says : saysText (d .value) ≡ hasText s (i .type) (i .at)
+    says = ap (λ (x : Cell). saysText (x .value)) (listed-here i .cell) ∙ says-is s (i .type) (i .at) (i .size) (i .part) (listed-here i .below)
+
+    units-of : unitsOf s′ d ≡ unitsOf s d
+    unfolding unitsOf
+    units-of =
+        pick-same _ _ _ _ _
+        (λ q.
+        let h = sym says ∙ q in
+        let f : d .field ≡ i .at + 10 = ap (λ (x : Cell). x .field) (listed-here i .cell) ∙ field-of s (i .type) (i .at) (i .size) (i .part) (listed-here i .below) (has-formula s (i .type) (i .at) h) in
+        let l : d .field - 10 ≡ i .at = omega arith in
+        ap (textAfter s′) l ∙ text-after h ∙ ap (textAfter s) (sym l))
+        (λ _. refl)
 
     -- the one whose value field was written
     same-part : i .type ≡ t → i .at ≡ a → (b : Bool) → eqb (i .part) k ≡ b → fieldFrom (i .type) (i .at) (i .part) ≡ p₀ → i .part ≡ k
@@ -108,9 +147,19 @@ module _ {s s′ : List ℕ} {a t z e k : ℕ} {v : CellValue} (c : Corrected s 
 
     -- any other reads the same
     pub other-read : (d .field ≡ p₀ → ⊥) → cellReading s′ (write d) ≡ cellReading s d
-    other-read n = ap (cellReading s′) (written-other p₀ v d n) ∙ (λ y. record { row = d .row; column = d .column; value = d .value; tokens = tokens-of y; trailing = trailing-of y; format = d .format; place = d .field })
+    other-read n = ap (cellReading s′) (written-other p₀ v d n) ∙ (λ y. record { row = d .row; column = d .column; value = d .value; tokens = tokens-of y; trailing = trailing-of y; format = d .format; place = d .field; text = units-of y })
 
-    -- and that one has the new value
-    pub here-read : d .field ≡ p₀ → cellReading s′ (write d) ≡ withValue v (cellReading s d)
-    unfolding tokensOf trailingBytes
-    here-read q = ap (cellReading s′) (written-here p₀ v d q) ∙ (λ y. record { row = d .row; column = d .column; value = v; tokens = tokens-of y; trailing = trailing-of y; format = d .format; place = d .field })
+    -- and that one, which is no formula, has the new value, which is no formula's
+    module _ (formula-not : t ≡ 0x0006 → ⊥) (silent : saysText v ≡ false) (q : d .field ≡ p₀) where
+      units-none : (x : List ℕ) (w : CellValue) → saysText w ≡ false → pick (saysText w) x [] ≡ []
+      units-none x w h = sym (pick-false [] x [] (saysText w) h refl)
+
+      units-here : unitsOf s′ (revalued d v) ≡ unitsOf s d
+      unfolding unitsOf cellOf cellFrom
+      units-here =
+          units-none _ v silent
+          ∙ sym (units-none _ (d .value) (ap (λ (x : Cell). saysText (x .value)) (here-is q) ∙ field-silent t (fieldAt (fieldOf (shapeOf t)) s (a + 8 + k * partOf (fieldOf (shapeOf t)))) formula-not))
+
+      pub here-read : cellReading s′ (write d) ≡ withValue v (cellReading s d)
+      unfolding tokensOf trailingBytes
+      here-read = ap (cellReading s′) (written-here p₀ v d q) ∙ (λ y. record { row = d .row; column = d .column; value = v; tokens = tokens-of y; trailing = trailing-of y; format = d .format; place = d .field; text = units-here y })

@@ -9,3 +9,4 @@ pub mod Names
 pub mod Strings
 pub mod Reading
 pub mod Values
+pub mod Texts

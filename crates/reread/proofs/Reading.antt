@@ -11,13 +11,15 @@ use borrow.Author.Tests.{eqb-true, eqb-false}
 use Rattle.walk.proofs.Choice.{pick-true, pick-false}
 use Rattle.value.specs.declared.Field.{Field}
 use Rattle.cell.specs.declared.Cell.{Cell}
+use Rattle.cell.specs.Cells.{shapeOf, fieldOf}
 use Rattle.change.specs.declared.NewValue.{NewValue}
-use Rattle.change.specs.Change.{Held, newOf}
+use Rattle.change.specs.declared.NewValue.the-variants.{Number, Text, Truth, Error}
+use Rattle.change.specs.Change.{Held, planOf, newOf}
 use Rattle.sheetlist.specs.Agreement.{Sheet}
 use Rattle.globals.specs.declared.Globals.{Globals}
 use Rattle.globals.specs.Globals.{globalsOf}
 use Rattle.globals.specs.Sheets.{sheetsOf}
-use Rattle.reading.specs.Reading.{nameAt, widthAt, typeAt, listedOf, rowsOf, onGlobals, CellReading, cellReading, sheetReading, readingOf}
+use Rattle.reading.specs.Reading.{nameAt, widthAt, typeAt, listedOf, rowsOf, onGlobals, saysText, CellReading, cellReading, sheetReading, readingOf}
 use Rattle.correction.specs.Correction.{writes, streamAfter}
 use Rattle.chain.specs.Chain.{here, Reach, Beside, Every, Nth}
 use Rattle.chain.specs.Tops.{SheetStands}
@@ -25,8 +27,9 @@ use Rattle.chain.proofs.Chain.{chain-trans, over, reach-ahead, beside-reach, ev
 use Rattle.chain.proofs.Tops.{tops-reach}
 use Rattle.chain.proofs.Sheets.{Bounded, passing, sheets-stand, sheets-apart, sheets-bounded}
 use Rattle.upheld.specs.Granted.{Granted, Listed}
-use Rattle.upheld.proofs.Granted.{granted}
-use Rattle.upheld.proofs.Upheld.{globals-stay, sheets-stay}
+use Rattle.cell.proofs.Sizes.{formula-shape}
+use Rattle.upheld.proofs.Granted.{granted, listed-kind}
+use Rattle.upheld.proofs.Upheld.{formula-takes, globals-stay, sheets-stay}
 use Rattle.reread.specs.Replaced.{replacedCell, replacedSheet, onNth, replaced, valuesAt}
 use Rattle.reread.specs.Claims.{ReadsReplaced, OneBefore, NewAfter}
 use Rattle.reread.specs.Parts.{fieldFrom, Corrected, written, addressed, ListedTo}
@@ -37,6 +40,13 @@ use Rattle.reread.proofs.Cells.{sheet-written, sheet-read, sheet-rows, 
 use Rattle.reread.proofs.Names.{name-kept, width-kept, type-kept}
 use Rattle.reread.proofs.Strings.{globals-tabled, strings-kept}
 use Rattle.reread.proofs.Values.{value-one, value-new}
+
+-- a new value is no formula's
+new-silent : (v : NewValue) → saysText (newOf v) ≡ false
+new-silent (Number x) = refl
+new-silent (Text i) = refl
+new-silent (Truth t) = refl
+new-silent (Error e) = refl
 
 -- ---- a correction that is granted
 module _ {s : List ℕ} {n row column : ℕ} {v : NewValue} {f : Field} {p b : ℕ} (r : Granted s n row column v f p b) (held : Held v) where
@@ -61,6 +71,11 @@ module _ {s : List ℕ} {n row column : ℕ} {v : NewValue} {f : Field} {p b : �
 
   c : Corrected s s′ a (w₀ .type) (w₀ .size) e (w₀ .part) (newOf v)
   c = corrected r held
+
+  formula-not : w₀ .type ≡ 0x0006 → ⊥
+  formula-not q =
+      formula-takes v (g .unique) b
+      (ap (λ (x : Field). planOf x v (g .unique)) (sym (listed-kind w₀ ∙ ap (λ (k : ℕ). fieldOf (shapeOf k)) q ∙ ap fieldOf formula-shape)) ∙ r .plan)
 
   -- each place that is reached from the end of the globals' BOF is beside it
   near : {x : ℕ} → Reach s 20 x → Beside s a e x
@@ -105,7 +120,7 @@ module _ {s : List ℕ} {n row column : ℕ} {v : NewValue} {f : Field} {p b : �
     other-sheet other =
         sheet-by (map (cellReading s) (listedOf s x))
         (sheet-read c g x stand near-sheet (λ d. d)
-        (every-map (ListedTo s (x .position) (stand .end)) _ (λ d j. other-read c (x .position) d (j .listed) near-sheet (field-else other d j)) (listedOf s x) (sheet-cells s g x stand))
+        (every-map (ListedTo s (x .position) (stand .end)) _ (λ d j. other-read c (x .position) d (j .listed) near-sheet (j .text) (field-else other d j)) (listedOf s x) (sheet-cells s g x stand))
         ∙ map-same (map (cellReading s) (listedOf s x)))
 
   -- ---- the n-th sheet
@@ -132,11 +147,11 @@ module _ {s : List ℕ} {n row column : ℕ} {v : NewValue} {f : Field} {p b : �
       go : (y : Bool) → eqb (d .field) p₀ ≡ y → cellReading s′ (written p₀ (newOf v) d) ≡ replacedCell row column (newOf v) (cellReading s d)
       go true q =
           let k = eqb-true (d .field) p₀ q in
-          let h : d ≡ r .cell = here-is c (r .sheet .position) d (j .listed) near-n k ∙ sym (cell-of r) in
-          here-read c (r .sheet .position) d (j .listed) near-n k ∙ pick-true _ _ _ (addressed row column d) (subst Has (sym h) cell-has) refl
+          let h : d ≡ r .cell = here-is c (r .sheet .position) d (j .listed) near-n (j .text) k ∙ sym (cell-of r) in
+          here-read c (r .sheet .position) d (j .listed) near-n (j .text) formula-not (new-silent v) k ∙ pick-true _ _ _ (addressed row column d) (subst Has (sym h) cell-has) refl
       go false q =
           let k = eqb-false (d .field) p₀ q in
-          other-read c (r .sheet .position) d (j .listed) near-n k ∙ pick-false _ _ _ (addressed row column d) (none (addressed row column d) refl k) refl
+          other-read c (r .sheet .position) d (j .listed) near-n (j .text) k ∙ pick-false _ _ _ (addressed row column d) (none (addressed row column d) refl k) refl
 
   this-sheet : (x : Sheet) → Nth (sheetsOf s) n x → sheetReading s′ x ≡ replacedSheet row column (newOf v) (sheetReading s x)
   this-sheet x i =

@@ -3,7 +3,7 @@ use Prim.Native.Nat.{ℕ, _+_, _*_, _≤_, _<_}
 use mathlib.Core.Path.{_≡_}
 use mathlib.Core.List.{List}
 use mathlib.Core.Logic.{_⊎_}
-use mathlib.Core.Bool.{Bool, _&&_}
+use mathlib.Core.Bool.{Bool, true, _&&_}
 use lib.Dec.{eqb}
 use lib.ListN.{length, getD}
 use Rattle.walk.specs.Choice.{pick}
@@ -17,6 +17,9 @@ use Rattle.kept.specs.Claims.{placeOf, revalued}
 use Rattle.substream.specs.declared.Here.{Here}
 use Rattle.substream.specs.declared.Ended.the-variants.{At}
 use Rattle.substream.specs.Substream.{recordsFrom, substreamIn}
+use Rattle.segments.specs.Parts.{Passes}
+use Rattle.textresult.specs.TextResult.{hasText, textOf}
+use Rattle.chain.specs.Chain.{Plain}
 use Rattle.upheld.specs.Granted.{Listed}
 
 -- ---- a stream in which one value field was written
@@ -44,12 +47,15 @@ abbrev pub addressed : ℕ → ℕ → Cell → Bool
 addressed row column c = eqb (c .row) row && eqb (c .column) column
 
 -- ---- where the listing of a worksheet's cells goes
--- a record at `at`, inside l substreams of the worksheet that ends at `to`: the walk of each of them from there on comes to its end
+-- a record at `at`, inside l substreams of the worksheet that ends at `to`: the walk of each of them from there on comes to its end. The walk goes past a
+-- formula's text result in one step: the records of it are plain, and lead to where the walk goes on
 pub data Inside (s : List ℕ) (u to : ℕ) : ℕ → ℕ → Type 0 where
   sheet : {l at : ℕ} (h : Here) → l ≡ 0 → h .at ≡ at → recordsFrom (substreamIn 3 s u 0x0020) s 0x0010 u h ≡ At to → Inside s u to l at
   chart : {l at : ℕ} (m d e : ℕ) (h : Here) → l ≡ m + 1 → m + d ≡ 2 → h .at ≡ at → recordsFrom (substreamIn d s u 0x0020) s 0x0020 u h ≡ At e → Inside s u to m e → Inside s u to l at
+  plain : {l at : ℕ} (e : ℕ) → Plain s at e → Inside s u to l e → Inside s u to l at
 
--- a listed cell whose record ends at or before `to`
+-- a listed cell whose record ends at or before `to`; where it is a formula with a text result, nothing of that is refused
 pub record ListedTo (s : List ℕ) (from to : ℕ) (c : Cell) : Type 0 where
   pub listed : Listed s from c
   pub ends : listed .end ≤ to
+  pub text : hasText s (listed .type) (listed .at) ≡ true → Passes (textOf s (listed .at) (listed .end))

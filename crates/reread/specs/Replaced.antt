@@ -1,5 +1,5 @@
 -- The reading of a stream with the value of one cell replaced. A reading is: in order, each sheet's name, width, type, row count and listed cells (row, column,
--- value, a formula's tokens, format, place), and each shared string's units.
+-- value, a formula's tokens and the bytes after them, format, place, the units of its text result), and each shared string's units.
 use Prim.Native.Nat.{ℕ, zero, suc}
 use mathlib.Core.List.{List, [], _∷_, map}
 use mathlib.Core.Bool.{Bool, _&&_}
@@ -13,9 +13,18 @@ use Rattle.reading.specs.Reading.{CellReading, SheetReading, Reading}
 abbrev pub hasAddress : ℕ → ℕ → CellReading → Bool
 hasAddress row column c = eqb (c .row) row && eqb (c .column) column
 
--- a cell with another value: row, column, tokens and the bytes after them, format and place stay
+-- a cell with another value: row, column, tokens and the bytes after them, format, place and the units of a text result stay
 abbrev pub withValue : CellValue → CellReading → CellReading
-withValue v c = record { row = c .row; column = c .column; value = v; tokens = c .tokens; trailing = c .trailing; format = c .format; place = c .place }
+withValue v c = record {
+  row = c .row;
+  column = c .column;
+  value = v;
+  tokens = c .tokens;
+  trailing = c .trailing;
+  format = c .format;
+  place = c .place;
+  text = c .text;
+}
 
 -- the cells of the address have the value, all others are as they were, in order
 abbrev pub replacedCell : ℕ → ℕ → CellValue → CellReading → CellReading

@@ -195,8 +195,8 @@ fn fit_items(here: usize, w: usize, n: usize) -> Fit
     }
 }
 
-// Past n items of w bytes each, by what each segment holds of them.
-fn skip_over(s: &[u8], number: u8, flagged: bool, w: usize, n: usize, c: Cursor) -> Moved
+// Past n items of w bytes each, by what each segment holds of them. With its two callers it stays a function by itself, and `skip_items` a short one.
+pub fn skip_over(s: &[u8], number: u8, flagged: bool, w: usize, n: usize, c: Cursor) -> Moved
     requires { ⌜ Inside (now s) c × (1 ≤ w) ⌝ }
     ensures { λ r. ⌜ moved r ≡ ends (items number (now (s .entry)) flagged w n c) ⌝ }
 {

@@ -56,8 +56,12 @@ module _ (s : List ℕ) (n row column : ℕ) (v : NewValue) {w : NewValue} (made
   pub correct-left : {t : List ℕ} → t ≡ streamAfter s (correctionOf s n row column w) → t ≡ streamAfter s (correctionOf s n row column v)
   correct-left i = i ∙ ap (λ (m : NewValue). streamAfter s (correctionOf s n row column m)) made
 
-pub fetch-seen : {a r x : Fetched} {y : Units} → r ≡ a → r ≡ x → y ≡ fetchSeen x → y ≡ fetchSeen a
-fetch-seen = seen fetchSeen
+-- of an answer that is x, and of an answer a that the call gave as r
+pub units-told : {a x : Fetched} {y : Units} → a ≡ x → y ≡ fetchSeen x → y ≡ fetchSeen a
+units-told i h = h ∙ ap fetchSeen (sym i)
+
+pub fetch-seen : {a r : Fetched} {y : Units} → r ≡ a → y ≡ fetchSeen r → y ≡ fetchSeen a
+fetch-seen i h = h ∙ ap fetchSeen i
 
 pub text-seen : (c : Cursor) {a r x : NextString} {y : SharedString} → r ≡ a → r ≡ x → y ≡ textSeen c x → y ≡ textSeen c a
 text-seen c = seen (textSeen c)

@@ -1,5 +1,6 @@
 // The five questions as C functions. Each is defined for every argument; a refusal's number is 0 where there is none, and what isn't answered is 0.
 mod sessions;
+mod texts;
 
 ghost use mathlib.Core.Path.{_≡_};
 ghost use Rattle.judge.specs.Judge.{judgeOf};
@@ -146,12 +147,11 @@ pub extern "C" fn station_judge(tokens: &[u8], trailing: &[u8]) -> Answer
     }
 }
 
-#[no_mangle]
-pub extern "C" fn station_fetch(s: &[u8], index: u32, units: &mut [u16]) -> Units
-    ensures { λ r. ⌜ r ≡ fetchSeen (answerOf (now (s .entry)) index (now (units .entry))) ⌝ }
-    ensures { λ r. ⌜ now (units .exit) ≡ bufferAfter (now (s .entry)) index (now (units .entry)) ⌝ }
+// The answer to a fetch.
+pub fn units_of(answer: Fetched) -> Units
+    ensures { λ r. ⌜ r ≡ fetchSeen answer ⌝ }
 {
-    match fetch::fetch(s, index, units) {
+    match answer {
         Fetched::Units(count) => Units {
             number: 0,
             offset: 0,
@@ -163,6 +163,14 @@ pub extern "C" fn station_fetch(s: &[u8], index: u32, units: &mut [u16]) -> Unit
             units: 0,
         },
     }
+}
+
+#[no_mangle]
+pub extern "C" fn station_fetch(s: &[u8], index: u32, units: &mut [u16]) -> Units
+    ensures { λ r. ⌜ r ≡ fetchSeen (answerOf (now (s .entry)) index (now (units .entry))) ⌝ }
+    ensures { λ r. ⌜ now (units .exit) ≡ bufferAfter (now (s .entry)) index (now (units .entry)) ⌝ }
+{
+    units_of(fetch::fetch(s, index, units))
 }
 
 // The next shared string from a place on.

@@ -1,13 +1,14 @@
 -- The laws of a step and of the walk, with what a call gave as the proofs have it. Assumes nothing.
-use Prim.Native.Nat.{ℕ, zero, suc, _+_, _-_, _≤_, _<_}
+use Prim.Native.Nat.{ℕ, zero, suc, _+_, _-_, _≤_, _<_, _/_, _%_, _^_}
 use mathlib.Core.Path.{_≡_, refl, sym, ap, _∙_, subst⁻¹}
 use mathlib.Core.List.{List}
+use mathlib.Core.Bool.{Bool, true, false}
 use native.Mathlib.Omega.{arith}
 use lib.ListN.{length}
-use lib.Dec.{eqb}
-use borrow.Author.Tests.{eqb-true}
+use lib.Dec.{leb, eqb}
+use borrow.Author.Tests.{eq-eqb, ne-eqb, eqb-true, leb-true}
 use Rattle.walk.specs.Choice.{pick}
-use Rattle.walk.proofs.Choice.{pick-any, pick-by, pick-eq, pick-ne}
+use Rattle.walk.proofs.Choice.{never, pick-any, pick-by, pick-eq, pick-ne, pick-true, pick-false}
 use Rattle.walk.specs.Walk.{Next, more, stop, run}
 use Rattle.walk.proofs.Walk.{run-more, run-stop, run-keeps}
 use Rattle.record.specs.declared.Header.{Header}
@@ -16,29 +17,143 @@ use Rattle.record.specs.Record.{headerAt}
 use Rattle.record.proofs.Laws.{Whole, whole}
 use Rattle.cell.specs.declared.Judged.{Judged}
 use Rattle.cell.specs.declared.Judged.the-variants as judged
-use Rattle.cell.specs.Cells.{shapeOf, judgeOf}
+use Rattle.cell.specs.declared.Shape.the-variants.{FORMULA}
+use Rattle.cell.specs.Cells.{shapeOf, lengthAt, countOf, judged as judgedOf, judgeOf}
+use Rattle.cell.specs.Parts.{formulaSized}
+use Rattle.cell.proofs.Sizes.{formula-shape}
+use Rattle.cell.proofs.Judging.{formula-unsized, result-room, formula-value, formula-passed}
+use Rattle.le.specs.Bytes.{u64At}
+use Rattle.value.specs.Value.{resultOf, markedFits, resultFits}
+use Rattle.segments.specs.declared.Cursor.{Cursor}
+use Rattle.segments.specs.declared.Moved.{Moved}
+use Rattle.segments.specs.Segments.{Got, got, refused}
+use Rattle.segments.specs.Parts.{ends, moved}
+use Rattle.segments.proofs.Local.{refused-not}
+use Rattle.textresult.specs.TextResult.{isText, hasText, textOf}
+use Rattle.textresult.proofs.Laws.{text-number, text-marked}
+use Rattle.textresult.proofs.Local.{text-ahead}
 use Rattle.substream.specs.declared.Here.{Here}
 use Rattle.substream.specs.declared.Step.{Step}
 use Rattle.substream.specs.declared.Step.the-variants.{More, Open, Close, Stop}
 use Rattle.substream.specs.declared.Ended.{Ended}
 use Rattle.substream.specs.declared.Ended.the-variants.{At, Refused}
-use Rattle.substream.specs.Substream.{past, pastParent, versionAt, innerBof, otherRecord, dimensionsRecord, onJudged, recordIn, onHeader, stepOf, back, turn, recordsFrom, substreamIn}
+use Rattle.substream.specs.Parts.{resultRecord, formulaRecord}
+use Rattle.substream.specs.Substream.{past, pastParent, versionAt, innerBof, otherRecord, dimensionsRecord, onText, passedRecord, onJudged, recordIn, onHeader, stepOf, back, turn, recordsFrom, substreamIn}
 
 -- ---- from an answer to the definition that goes by it
 module _ (s : List ℕ) (k u : ℕ) (v : Here) (t z e : ℕ) (y : Step) where
-  pub in-sheet : {r x : Judged} → k ≡ 0x0010 → r ≡ judgeOf s (shapeOf t) (v .at) z u → r ≡ x → y ≡ onJudged s k v t z e x → y ≡ recordIn s k u v t z e
-  unfolding recordIn
-  in-sheet h i j g = pick-eq _ _ _ _ _ h (g ∙ ap (onJudged s k v t z e) (sym j ∙ i))
+  formula-in : formulaRecord s v z e ≡ recordIn s 0x0010 u v 0x0006 z e
+  unfolding recordIn formulaRecord judgeOf judgedOf shapeOf pick
+  formula-in = refl
+
+  pub in-formula : k ≡ 0x0010 → t ≡ 0x0006 → y ≡ formulaRecord s v z e → y ≡ recordIn s k u v t z e
+  in-formula h i g = g ∙ formula-in ∙ ap (λ (x : ℕ). recordIn s x u v 0x0006 z e) (sym h) ∙ ap (λ (x : ℕ). recordIn s k u v x z e) (sym i)
+
+  pub in-sheet : k ≡ 0x0010 → y ≡ recordIn s 0x0010 u v t z e → y ≡ recordIn s k u v t z e
+  in-sheet h g = g ∙ ap (λ (x : ℕ). recordIn s x u v t z e) (sym h)
 
   pub in-other : (k ≡ 0x0010 → ⊥) → y ≡ otherRecord s k v t z e → y ≡ recordIn s k u v t z e
   unfolding recordIn
   in-other h g = pick-ne _ _ _ _ _ h g
 
+module _ (s : List ℕ) (u : ℕ) (v : Here) (t z e : ℕ) (y : Step) {r : Judged} (is : r ≡ judgeOf s (shapeOf t) (v .at) z u) where
+  by-judged : {x : Judged} → r ≡ x → y ≡ onJudged s 0x0010 v t z e x → y ≡ recordIn s 0x0010 u v t z e
+  unfolding recordIn
+  by-judged j g = pick-eq _ _ _ 0x0010 0x0010 refl (g ∙ ap (onJudged s 0x0010 v t z e) (sym j ∙ is))
+
+  pub sheet-passed : (n : ℕ) → r ≡ judged.Passed n → (t ≡ 0x0006 → ⊥) → y ≡ More (pastParent e) → y ≡ recordIn s 0x0010 u v t z e
+  unfolding passedRecord hasText
+  sheet-passed n j o g = by-judged j (pick-false _ _ _ _ (sym (pick-ne _ _ _ t 0x0006 o refl)) g)
+
+  pub sheet-refused : (n o : ℕ) → r ≡ judged.Refused n o → y ≡ Stop n o → y ≡ recordIn s 0x0010 u v t z e
+  sheet-refused n o j g = by-judged j g
+
+  pub sheet-other : r ≡ judged.Other → y ≡ pick (eqb t 0x0200) (dimensionsRecord s (v .at) z e) (pick (eqb t 0x0207) (Stop 6 (v .at)) (otherRecord s 0x0010 v t z e)) → y ≡ recordIn s 0x0010 u v t z e
+  sheet-other j g = by-judged j g
+
+pub ruleset sheet-laws = (sheet-passed, sheet-refused, sheet-other)
+
 pub by-header : (s : List ℕ) (k u : ℕ) (v : Here) (y : Step) {r x : Header} → r ≡ headerAt s (v .at) → r ≡ x → y ≡ onHeader s k u v x → y ≡ stepOf s k u v
 unfolding stepOf
 by-header s k u v y i j g = g ∙ ap (onHeader s k u v) (sym j ∙ i)
 
-pub ruleset answers = (in-sheet, in-other, by-header)
+-- ---- a cell record that passes
+-- a FORMULA that passes has its stored result in its body
+formula-size : (s : List ℕ) (at z u n : ℕ) → judgeOf s FORMULA at z u ≡ judged.Passed n → 22 ≤ z
+unfolding judgeOf judgedOf pick
+formula-size s at z u n h =
+    pick-by (λ (x : Judged). x ≡ judged.Passed n → 22 ≤ z) (eqb (countOf FORMULA s at z) 0) (λ _ i. never (cc))
+    (λ q _. pick-by (λ (k : ℕ). eqb k 0 ≡ false → 22 ≤ z) (leb (22 + lengthAt s (at + 8)) z) (λ l _. let m = leb-true (22 + lengthAt s (at + 8)) z l in omega arith) (λ _ j. never (cc)) q) h
+
+-- a record of a FORMULA's type that passes
+pub formula-body : (s : List ℕ) (t at z u n : ℕ) → judgeOf s (shapeOf t) at z u ≡ judged.Passed n → t ≡ 0x0006 → 22 ≤ z
+formula-body s t at z u n h q = formula-size s at z u n (ap (λ x. judgeOf s x at z u) (sym formula-shape ∙ ap shapeOf (sym q)) ∙ h)
+
+-- one that is right but for its stored result n, as its bits tell it
+module _ (s : List ℕ) (at e n : ℕ) (y : Step) where
+  pub result-plain : (n / 2 ^ 48 ≡ 0xFFFF → ⊥) → y ≡ More (pastParent e) → y ≡ resultRecord s at e n
+  unfolding resultRecord resultFits
+  result-plain h i = pick-true _ _ _ _ (sym (pick-ne _ _ _ (n / 2 ^ 48) 0xFFFF h refl)) (pick-false _ _ _ _ (sym (text-number n h)) i)
+
+  module _ (marked : n / 2 ^ 48 ≡ 0xFFFF) where
+    pub result-text : n % 256 ≡ 0 → y ≡ onText (textOf s at e) → y ≡ resultRecord s at e n
+    unfolding resultRecord resultFits markedFits
+    result-text h i = pick-true _ _ _ _ (sym (pick-eq _ _ _ (n / 2 ^ 48) 0xFFFF marked (pick-eq _ _ _ (n % 256) 0 h refl))) (pick-true _ _ _ _ (sym (text-marked n marked) ∙ eq-eqb (n % 256) 0 h) i)
+
+    module _ (other : n % 256 ≡ 0 → ⊥) (r : Bool) (told : r ≡ resultFits n) where
+      pub result-other : r ≡ true → y ≡ More (pastParent e) → y ≡ resultRecord s at e n
+      unfolding resultRecord
+      result-other f i = pick-true _ _ _ _ (sym told ∙ f) (pick-false _ _ _ _ (sym (text-marked n marked) ∙ ne-eqb (n % 256) 0 other) i)
+
+      pub result-wrong : r ≡ false → y ≡ Stop 6 at → y ≡ resultRecord s at e n
+      unfolding resultRecord
+      result-wrong f i = pick-false _ _ _ _ (sym told ∙ f) i
+
+pub ruleset result-laws = (result-plain, result-text, result-other, result-wrong)
+
+pub formula-room : (s : List ℕ) (v : Here) (z : ℕ) (b : Bool) → b ≡ formulaSized s (v .at) z → b ≡ true → v .at + 4 + z ≤ length s → v .at + 10 + 8 ≤ length s
+formula-room s v z b is h l = result-room s (v .at) z b is h (length s) l
+
+module _ (s : List ℕ) (v : Here) (z e : ℕ) (y : Step) (b : Bool) (is : b ≡ formulaSized s (v .at) z) where
+  pub formula-wrong : b ≡ false → y ≡ Stop 6 (v .at) → y ≡ formulaRecord s v z e
+  unfolding formulaRecord
+  formula-wrong h i = i ∙ ap (onJudged s 0x0010 v 0x0006 z e) (formula-unsized s (v .at) z 0 b is h _ refl)
+
+  module _ (h : b ≡ true) where
+    pub formula-right : (n : ℕ) → n ≡ u64At s (v .at + 10) → y ≡ resultRecord s (v .at) e n → y ≡ formulaRecord s v z e
+    unfolding formulaRecord resultRecord passedRecord hasText pick
+    formula-right n read i = i ∙ by (resultFits n) refl
+      where
+        by : (f : Bool) → resultFits n ≡ f → resultRecord s (v .at) e n ≡ formulaRecord s v z e
+        by true q =
+            sym (pick-true _ _ _ _ q refl)
+            ∙ ap (λ (x : ℕ). pick (isText (resultOf x)) (onText (textOf s (v .at) e)) (More (pastParent e))) read
+            ∙ ap (onJudged s 0x0010 v 0x0006 z e) (formula-passed s (v .at) z 0 b is h n read true (sym q) refl)
+        by false q =
+            sym (pick-false _ _ _ _ q refl)
+            ∙ ap (onJudged s 0x0010 v 0x0006 z e) (formula-value s (v .at) z 0 b is h n read false (sym q) refl _ refl)
+
+pub ruleset formula-laws = (formula-wrong, formula-room, formula-right)
+
+-- the text result of a formula
+module _ (s : List ℕ) (at e : ℕ) (m : Moved) (q : moved m ≡ ends (textOf s at e)) where
+  pub text-to : (c : Cursor) → m ≡ Moved.To c → More (past (c .end)) ≡ onText (textOf s at e)
+  text-to c i = by (textOf s at e) refl
+    where
+      by : (x : Got (List ℕ)) → textOf s at e ≡ x → More (past (c .end)) ≡ onText (textOf s at e)
+      by (got us d) j = let k : got tt c ≡ got tt d = ap moved (sym i) ∙ q ∙ ap ends j in let l : _≡_ {A = Cursor} c d = cc in ap (λ (x : Cursor). More (past (x .end))) l ∙ ap onText (sym j)
+      by (refused n o) j = absurd (refused-not (sym (ap moved (sym i) ∙ q ∙ ap ends j)))
+
+  pub text-stop : (n o : ℕ) → m ≡ Moved.Refused n o → Stop n o ≡ onText (textOf s at e)
+  text-stop n o i = by (textOf s at e) refl
+    where
+      by : (x : Got (List ℕ)) → textOf s at e ≡ x → Stop n o ≡ onText (textOf s at e)
+      by (got us d) j = absurd (refused-not (ap moved (sym i) ∙ q ∙ ap ends j))
+      by (refused a c) j = let k : refused n o ≡ refused a c = ap moved (sym i) ∙ q ∙ ap ends j in let l : _≡_ {A = ℕ} n a = cc in let w : _≡_ {A = ℕ} o c = cc in ap (λ (x : ℕ). Stop x o) l ∙ ap (Stop a) w ∙ ap onText (sym j)
+
+pub ruleset text-laws = (text-to, text-stop)
+
+pub ruleset answers = (in-formula, in-sheet, in-other, by-header)
 
 -- ---- a step goes at least a header ahead and stays within the stream
 abbrev pub Ahead : List ℕ → Here → Step → Type 0
@@ -65,10 +180,18 @@ module _ (s : List ℕ) (k u : ℕ) (v : Here) (t z e : ℕ) (w : Whole s (v .at
   unfolding dimensionsRecord
   ahead-dimensions = pick-any (Ahead s v) _ (omega arith) tt
 
+  ahead-text : (x : Got (List ℕ)) → textOf s (v .at) e ≡ x → Ahead s v (onText x)
+  ahead-text (got us c) h = let i = text-ahead s s refl (v .at) e us c h in omega arith
+  ahead-text (refused n o) h = tt
+
+  ahead-passed : Ahead s v (passedRecord s (v .at) t e)
+  unfolding passedRecord
+  ahead-passed = pick-any (Ahead s v) _ (ahead-text (textOf s (v .at) e) refl) (omega arith)
+
   ahead-judged : (x : Judged) → Ahead s v (onJudged s k v t z e x)
-  ahead-judged (judged.Passed n) = omega arith
+  ahead-judged (judged.Passed n) = ahead-passed
   ahead-judged (judged.Refused n o) = tt
-  ahead-judged judged.Other = pick-any (Ahead s v) _ ahead-dimensions ahead-other
+  ahead-judged judged.Other = pick-any (Ahead s v) _ ahead-dimensions (pick-any (Ahead s v) _ tt ahead-other)
 
   ahead-record : Ahead s v (recordIn s k u v t z e)
   unfolding recordIn

@@ -1,1 +1,2 @@
 pub mod Substream
+pub mod Parts

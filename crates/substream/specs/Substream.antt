@@ -13,6 +13,8 @@ use Rattle.record.specs.Record.{headerAt}
 use Rattle.cell.specs.declared.Judged.{Judged}
 use Rattle.cell.specs.declared.Judged.the-variants as judged
 use Rattle.cell.specs.Cells.{shapeOf, judgeOf}
+use Rattle.segments.specs.Segments.{Got, got, refused}
+use Rattle.textresult.specs.TextResult.{hasText, textOf}
 use Rattle.substream.specs.declared.Here.{Here}
 use Rattle.substream.specs.declared.Step.{Step}
 use Rattle.substream.specs.declared.Step.the-variants.{More, Open, Close, Stop}
@@ -62,11 +64,23 @@ dimensionsFit s at z =
 unfoldable pub dimensionsRecord : List ℕ → ℕ → ℕ → ℕ → Step
 dimensionsRecord s at z e = pick (dimensionsFit s at z) (More (past e)) (Stop 6 at)
 
--- DIMENSIONS and the cell records are read directly in a worksheet; u is the unique count of strings
+-- past a text result, or its refusal
+abbrev pub onText : Got (List ℕ) → Step
+onText (got us c) = More (past (c .end))
+onText (refused n o) = Stop n o
+
+-- a cell record that passes; after a FORMULA whose result is text, past its STRING too
+unfoldable pub passedRecord : List ℕ → ℕ → ℕ → ℕ → Step
+passedRecord s at t e = pick (hasText s t at) (onText (textOf s at e)) (More (pastParent e))
+
+-- DIMENSIONS and the cell records are read directly in a worksheet; u is the unique count of strings. A STRING that no formula waits for is 6
 abbrev pub onJudged : List ℕ → ℕ → Here → ℕ → ℕ → ℕ → Judged → Step
-onJudged s k v t z e (judged.Passed n) = More (pastParent e)
+onJudged s k v t z e (judged.Passed n) = passedRecord s (v .at) t e
 onJudged s k v t z e (judged.Refused n o) = Stop n o
-onJudged s k v t z e judged.Other = pick (eqb t 0x0200) (dimensionsRecord s (v .at) z e) (otherRecord s k v t z e)
+onJudged s k v t z e judged.Other =
+    pick (eqb t 0x0200) (dimensionsRecord s (v .at) z e)
+    (pick (eqb t 0x0207) (Stop 6 (v .at))
+    (otherRecord s k v t z e))
 
 unfoldable pub recordIn : List ℕ → ℕ → ℕ → Here → ℕ → ℕ → ℕ → Step
 recordIn s k u v t z e =

@@ -3,9 +3,12 @@
 ghost use mathlib.Core.Path.{_≡_};
 ghost use Prim.Native.Nat.{_+_, _≤_};
 ghost use lib.ListN.{length};
-ghost use Rattle.substream.specs.Substream.{innerBof, otherRecord, dimensionsFit, dimensionsRecord, onJudged, recordIn, stepOf, substreamIn};
+ghost use Rattle.textresult.specs.TextResult.{textOf};
+ghost use Rattle.substream.specs.Substream.{innerBof, otherRecord, dimensionsFit, dimensionsRecord, onText, recordIn, stepOf, substreamIn};
+ghost use Rattle.substream.specs.Parts.{resultRecord, formulaRecord};
 use cell::Judged;
 use record::Header;
+use segments::Moved;
 
 // Where the next record stands, and whether a CONTINUE there would have no parent.
 pub struct Here {
@@ -125,29 +128,97 @@ fn dimensions_record(s: &[u8], at: usize, size: usize, end: usize) -> Step
     }
 }
 
-fn record_in(s: &[u8], kind: u16, unique: u32, v: Here, id: u16, size: usize, end: usize) -> Step
-    requires { ⌜ v .at + 4 + size ≤ length (now s) ⌝ }
-    ensures { λ r. ⌜ r ≡ recordIn (now (s .entry)) kind unique v id size end ⌝ }
+// Past the text result of the FORMULA at `at`, which ends at `end`.
+fn text_record(s: &[u8], at: usize, end: usize) -> Step
+    requires { ⌜ end ≤ length (now s) ⌝ }
+    ensures { λ r. ⌜ r ≡ onText (textOf (now (s .entry)) at end) ⌝ }
+{
+    match textresult::check_text(s, at, end) {
+        Moved::To(c) => Step::More(Here {
+            at: c.end,
+            orphan: false,
+        }),
+        Moved::Refused { number, offset } => Step::Stop { number, offset },
+    }
+}
+
+// A FORMULA that is right but for its stored result n, which is looked at once: a number, as most are, is one test.
+fn result_record(s: &[u8], at: usize, end: usize, n: u64) -> Step
+    requires { ⌜ end ≤ length (now s) ⌝ }
+    ensures { λ r. ⌜ r ≡ resultRecord (now (s .entry)) at end n ⌝ }
+{
+    if n >> 48 != 0xFFFF {
+        return Step::More(Here {
+            at: end,
+            orphan: true,
+        });
+    }
+    if n % 256 == 0 {
+        return text_record(s, at, end);
+    }
+    if value::result_fits(n) {
+        return Step::More(Here {
+            at: end,
+            orphan: true,
+        });
+    }
+    Step::Stop {
+        number: 6,
+        offset: at,
+    }
+}
+
+fn formula_record(s: &[u8], v: Here, size: usize, end: usize) -> Step
+    requires { ⌜ (v .at + 4 + size ≤ length (now s)) × (end ≤ length (now s)) ⌝ }
+    ensures { λ r. ⌜ r ≡ formulaRecord (now (s .entry)) v size end ⌝ }
 {
     let at = v.at;
-    if kind == 0x0010 {
-        match cell::judge_record(s, at, id, size, unique) {
-            Judged::Passed(_) => {
-                return Step::More(Here {
-                    at: end,
-                    orphan: true,
-                });
+    if cell::formula_sized(s, at, size) {
+        let n = le::u64_at(s, at + 10);
+        return result_record(s, at, end, n);
+    }
+    Step::Stop {
+        number: 6,
+        offset: at,
+    }
+}
+
+// Any record directly in a worksheet but a FORMULA.
+fn sheet_record(s: &[u8], unique: u32, v: Here, id: u16, size: usize, end: usize) -> Step
+    requires { ⌜ (v .at + 4 + size ≤ length (now s)) × (id ≡ 0x0006 → ⊥) ⌝ }
+    ensures { λ r. ⌜ r ≡ recordIn (now (s .entry)) 0x0010 unique v id size end ⌝ }
+{
+    let at = v.at;
+    match cell::judge_record(s, at, id, size, unique) {
+        Judged::Passed(_) => Step::More(Here {
+            at: end,
+            orphan: true,
+        }),
+        Judged::Refused { number, offset } => Step::Stop { number, offset },
+        Judged::Other => {
+            if id == 0x0200 {
+                return dimensions_record(s, at, size, end);
             }
-            Judged::Refused { number, offset } => {
-                return Step::Stop { number, offset };
+            if id == 0x0207 {
+                return Step::Stop {
+                    number: 6,
+                    offset: at,
+                };
             }
-            Judged::Other => {
-                if id == 0x0200 {
-                    return dimensions_record(s, at, size, end);
-                }
-                return other_record(s, kind, v, id, size, end);
-            }
+            other_record(s, 0x0010, v, id, size, end)
         }
+    }
+}
+
+fn record_in(s: &[u8], kind: u16, unique: u32, v: Here, id: u16, size: usize, end: usize) -> Step
+    requires { ⌜ (v .at + 4 + size ≤ length (now s)) × (end ≤ length (now s)) ⌝ }
+    ensures { λ r. ⌜ r ≡ recordIn (now (s .entry)) kind unique v id size end ⌝ }
+{
+    if kind == 0x0010 {
+        if id == 0x0006 {
+            return formula_record(s, v, size, end);
+        }
+        return sheet_record(s, unique, v, id, size, end);
     }
     other_record(s, kind, v, id, size, end)
 }

@@ -12,12 +12,18 @@ use Rattle.record.specs.declared.Header.{Header}
 use Rattle.record.specs.declared.Header.the-variants.{Record}
 use Rattle.record.specs.Record.{headerAt}
 use Rattle.record.proofs.Laws.{whole}
+use Rattle.cell.specs.declared.Shape.the-variants.{OTHER}
+use Rattle.cell.specs.Cells.{shapeOf}
+use Rattle.segments.specs.declared.Cursor.{Cursor}
+use Rattle.segments.specs.Segments.{got}
+use Rattle.textresult.specs.TextResult.{textOf}
 use Rattle.substream.specs.declared.Here.{Here}
 use Rattle.substream.specs.Substream.{recordIn, onHeader, stepOf}
 use Rattle.globals.specs.Sheets.{sheetsFrom}
 use Rattle.toplevel.specs.TopLevel.{allZero}
 use Rattle.chain.specs.Chain.{here, on, Over, Beside}
-use Rattle.chain.proofs.Chain.{over, reach-ahead, beside-cases, beside-past}
+use Rattle.chain.proofs.Chain.{over, reach-ahead, beside-cases, beside-past, plain-beside}
+use Rattle.chain.proofs.Text.{text-chain}
 use Rattle.upheld.specs.Local.{Moves, Agreeing}
 use Rattle.upheld.proofs.Steps.{step-from, record-local}
 use Rattle.upheld.proofs.Zeros.{zeros-from, zeros-to}
@@ -63,8 +69,8 @@ module _ (s s′ : List ℕ) (len : length s ≡ length s′) (a t z e : ℕ) (i
       absurd (n (omega arith))
   beside-zeros n x (inr m) h = zeros-to s′ x (λ k i. sym (after k (omega arith)) ∙ zeros-from s x h k i)
 
-  -- the record itself: each step there that goes on is the same
-  module _ (u : ℕ) (kept : (k : ℕ) (v : Here) → v .at ≡ a → Moves (recordIn s k u v t z e) → recordIn s k u v t z e ≡ recordIn s′ k u v t z e) where
+  -- the record itself holds cells, and each step there that goes on is the same
+  module _ (u : ℕ) (cells : shapeOf t ≡ OTHER → ⊥) (kept : (k : ℕ) (v : Here) → v .at ≡ a → Moves (recordIn s k u v t z e) → recordIn s k u v t z e ≡ recordIn s′ k u v t z e) where
     moves-record : (k : ℕ) (v : Here) (t₁ z₁ f : ℕ) → headerAt s (v .at) ≡ Record t₁ z₁ f → Moves (stepOf s k u v) → Moves (recordIn s k u v t₁ z₁ f)
     unfolding stepOf
     moves-record k v t₁ z₁ f h m = subst (λ (x : Header). Moves (onHeader s k u v x)) h m
@@ -77,6 +83,14 @@ module _ (s s′ : List ℕ) (len : length s ≡ length s′) (a t z e : ℕ) (i
         let p₃ : f ≡ e = cc in
         rw (p₁, p₂, p₃) (kept k v q (rw (p₁, p₂, p₃) at m))
 
+    -- a text result beside it lies beside it whole
+    text-apart : (x f : ℕ) → P f → (us : List ℕ) (d : Cursor) → textOf s x f ≡ got us d → Same s s′ f (d .end + 2)
+    text-apart x f p us d i = by (plain-beside s a t z e is cells p (text-chain s x f us d i))
+      where
+        by : (d .end ≤ a) ⊎ (e ≤ f) → Same s s′ f (d .end + 2)
+        by (inl m) j l n = before j (omega arith) (omega arith)
+        by (inr m) j l n = after j (omega arith)
+
     step-same : (k : ℕ) (v : Here) → P (v .at) → Moves (stepOf s k u v) → stepOf s k u v ≡ stepOf s′ k u v
     step-same k v p m =
         step-from s s′ len k u v (λ j i l. beside-head (v .at) p j i (omega arith))
@@ -84,7 +98,9 @@ module _ (s s′ : List ℕ) (len : length s ≡ length s′) (a t z e : ℕ) (i
       where
         by : (t₁ z₁ f : ℕ) → headerAt s (v .at) ≡ Record t₁ z₁ f → (v .at ≡ a) ⊎ ((f ≤ a) ⊎ (e ≤ v .at)) → recordIn s k u v t₁ z₁ f ≡ recordIn s′ k u v t₁ z₁ f
         by t₁ z₁ f h (inl q) = kept-here k v t₁ z₁ f q h (moves-record k v t₁ z₁ f h m)
-        by t₁ z₁ f h (inr o) = record-local s s′ k u v t₁ z₁ f (whole s (v .at) t₁ z₁ f h .end) (apart-same (v .at) f o)
+        by t₁ z₁ f h (inr o) =
+            record-local s s′ k u v t₁ z₁ f (whole s (v .at) t₁ z₁ f h .end) (apart-same (v .at) f o) len
+            (text-apart (v .at) f (beside-keep (v .at) f p (over s h))) (moves-record k v t₁ z₁ f h m)
 
     pub beside-agrees : (t ≡ 0 → ⊥) → Agreeing s s′ u (Beside s a e)
     beside-agrees n = record { len = len; keep = beside-keep; head = beside-head; step = step-same; zeros = beside-zeros n }

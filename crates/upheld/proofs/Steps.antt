@@ -1,4 +1,4 @@
--- A step of a substream's walk reads its own record and the length of the stream. Assumes nothing.
+-- A step of a substream's walk that goes on reads its own record, the text result of a formula there, and the length of the stream. Assumes nothing.
 use Prim.Native.Nat.{ℕ, _+_, _-_, _≤_}
 use mathlib.Core.Path.{_≡_, refl, sym, ap, ap₂, _∙_}
 use mathlib.Core.List.{List}
@@ -14,14 +14,21 @@ use Rattle.le.proofs.Laws.{Same, num-same}
 use Rattle.record.specs.declared.Header.{Header}
 use Rattle.record.specs.declared.Header.the-variants.{Record, Cut, End}
 use Rattle.record.specs.Record.{headerAt}
-use Rattle.record.proofs.Laws.{whole, header-same}
+use Rattle.record.proofs.Laws.{header-same}
 use Rattle.cell.specs.declared.Judged.{Judged}
 use Rattle.cell.specs.declared.Judged.the-variants as judged
 use Rattle.cell.specs.Cells.{shapeOf, judgeOf}
 use Rattle.kept.proofs.Locality.{judge-local}
+use Rattle.segments.specs.declared.Cursor.{Cursor}
+use Rattle.segments.specs.Segments.{Got, got, refused}
+use Rattle.value.specs.Value.{resultOf}
+use Rattle.textresult.specs.TextResult.{isText, hasText, textOf}
+use Rattle.textresult.proofs.Local.{text-same}
 use Rattle.substream.specs.declared.Here.{Here}
 use Rattle.substream.specs.declared.Step.the-variants.{More, Open, Stop}
-use Rattle.substream.specs.Substream.{kindAt, innerBof, otherRecord, dimensionsFit, dimensionsRecord, onJudged, recordIn, onHeader, stepOf}
+use Rattle.substream.specs.Substream.{pastParent, kindAt, innerBof, otherRecord, dimensionsFit, dimensionsRecord, onText, passedRecord, onJudged, recordIn, onHeader, stepOf}
+use Rattle.substream.proofs.Laws.{formula-body}
+use Rattle.upheld.specs.Local.{Moves}
 
 -- two choices by one test agree where their sides do, if the one that is taken has Q
 pub pick-same-by : {A : Type 0} (Q : A → Type 0) (t : Bool) (y y′ z z′ : A) → (t ≡ true → Q y → y ≡ y′) → (t ≡ false → Q z → z ≡ z′) → Q (pick t y z) → pick t y z ≡ pick t y′ z′
@@ -55,17 +62,36 @@ module _ (s s′ : List ℕ) (k u : ℕ) (v : Here) (t z e : ℕ) where
         (λ i. let n = eqb-true z 14 i in rw (fields-at 4 4 n (omega arith), fields-at 4 8 n (omega arith), fields-at 2 12 n (omega arith), fields-at 2 14 n (omega arith)) refl)
         (λ _. refl))
 
-    judged-local : (x : Judged) → onJudged s k v t z e x ≡ onJudged s′ k v t z e x
-    judged-local (judged.Passed n) = refl
-    judged-local (judged.Refused n o) = refl
-    judged-local judged.Other = ap₂ (pick (eqb t 0x0200)) dimensions-local other-local
+    has-local : (n : ℕ) → judgeOf s (shapeOf t) (v .at) z u ≡ judged.Passed n → hasText s t (v .at) ≡ hasText s′ t (v .at)
+    unfolding hasText
+    has-local n i =
+        pick-same _ _ _ _ _
+        (λ q. let m = formula-body s t (v .at) z u n i (eqb-true t 0x0006 q) in ap (λ (x : ℕ). isText (resultOf x)) (num-same s s′ 8 (v .at + 10) (λ j a b. h j (omega arith) (omega arith))))
+        (λ _. refl)
 
-    pub record-local : recordIn s k u v t z e ≡ recordIn s′ k u v t z e
-    unfolding recordIn
-    record-local =
-        ap₂ (pick (eqb k 0x0010))
-        (judged-local (judgeOf s (shapeOf t) (v .at) z u) ∙ ap (onJudged s′ k v t z e) (sym (judge-local s s′ (v .at) z (shapeOf t) (λ j i l. h j i (omega arith)) u)))
-        other-local
+    -- the bytes of its text result, and two more, are the same
+    module _ (len : length s ≡ length s′) (text : (us : List ℕ) (d : Cursor) → textOf s (v .at) e ≡ got us d → Same s s′ e (d .end + 2)) where
+      text-local : (x : Got (List ℕ)) → textOf s (v .at) e ≡ x → Moves (onText x) → onText x ≡ onText (textOf s′ (v .at) e)
+      text-local (got us d) i m = ap onText (sym (text-same s s′ len (v .at) e us d i (text us d i)))
+      text-local (refused n o) i m = absurd m
+
+      passed-local : hasText s t (v .at) ≡ hasText s′ t (v .at) → Moves (passedRecord s (v .at) t e) → passedRecord s (v .at) t e ≡ passedRecord s′ (v .at) t e
+      unfolding passedRecord
+      passed-local q m =
+          pick-same-by Moves (hasText s t (v .at)) _ _ _ _ (λ _ o. text-local (textOf s (v .at) e) refl o) (λ _ _. refl) m
+          ∙ ap (λ (b : Bool). pick b (onText (textOf s′ (v .at) e)) (More (pastParent e))) q
+
+      judged-local : (x : Judged) → judgeOf s (shapeOf t) (v .at) z u ≡ x → Moves (onJudged s k v t z e x) → onJudged s k v t z e x ≡ onJudged s′ k v t z e x
+      judged-local (judged.Passed n) i m = passed-local (has-local n i) m
+      judged-local (judged.Refused n o) i m = refl
+      judged-local judged.Other i m = ap₂ (pick (eqb t 0x0200)) dimensions-local (ap (pick (eqb t 0x0207) (Stop 6 (v .at))) other-local)
+
+      pub record-local : Moves (recordIn s k u v t z e) → recordIn s k u v t z e ≡ recordIn s′ k u v t z e
+      unfolding recordIn
+      record-local m =
+          pick-same-by Moves (eqb k 0x0010) _ _ _ _
+          (λ _ o. judged-local (judgeOf s (shapeOf t) (v .at) z u) refl o ∙ ap (onJudged s′ k v t z e) (sym (judge-local s s′ (v .at) z (shapeOf t) (λ j i l. h j i (omega arith)) u)))
+          (λ _ _. other-local) m
 
 module _ (s s′ : List ℕ) (len : length s ≡ length s′) (k u : ℕ) (v : Here) where
   step-by : (x : Header) → headerAt s (v .at) ≡ x → ((t z e : ℕ) → x ≡ Record t z e → recordIn s k u v t z e ≡ recordIn s′ k u v t z e) → onHeader s k u v x ≡ onHeader s′ k u v x
@@ -77,6 +103,3 @@ module _ (s s′ : List ℕ) (len : length s ≡ length s′) (k u : ℕ) (v : H
   pub step-from : Same s s′ (v .at) (v .at + 4) → ((t z e : ℕ) → headerAt s (v .at) ≡ Record t z e → recordIn s k u v t z e ≡ recordIn s′ k u v t z e) → stepOf s k u v ≡ stepOf s′ k u v
   unfolding stepOf
   step-from h f = step-by (headerAt s (v .at)) refl f ∙ ap (onHeader s′ k u v) (header-same s s′ len (v .at) h)
-
-  pub step-local : Same s s′ (v .at) (v .at + 4) → ((t z e : ℕ) → headerAt s (v .at) ≡ Record t z e → Same s s′ (v .at) e) → stepOf s k u v ≡ stepOf s′ k u v
-  step-local h f = step-from h (λ t z e i. record-local s s′ k u v t z e (whole s (v .at) t z e i .end) (f t z e i))

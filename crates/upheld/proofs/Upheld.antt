@@ -3,19 +3,20 @@ use Prim.Native.Nat.{ℕ, _+_, _-_, _≤_, _<_}
 use mathlib.Core.Path.{_≡_, refl, sym, ap, ap₂, _∙_, subst}
 use mathlib.Core.List.{List}
 use mathlib.Core.Logic.{_⊎_, inl, inr}
-use mathlib.Core.Bool.{true}
+use mathlib.Core.Bool.{true, false}
 use native.Mathlib.Omega.{arith}
 use lib.ListN.{length, getD}
 use lib.Dec.{eqb}
 use lib.Seq.{sets, length-sets}
 use Rattle.walk.specs.Choice.{pick}
-use Rattle.walk.proofs.Choice.{never, pick-any, pick-by}
+use Rattle.walk.proofs.Choice.{never, pick-any, pick-by, pick-false, pick-ne}
 use Rattle.le.specs.Bytes.{bytesOf}
 use Rattle.le.proofs.Laws.{Same, num-same, stored-other}
 use Rattle.record.specs.declared.Header.the-variants.{Record}
 use Rattle.record.specs.Record.{headerAt}
 use Rattle.record.proofs.Laws.{whole}
 use Rattle.value.specs.declared.Field.{Field}
+use Rattle.value.specs.declared.Field.the-variants.{StoredResult}
 use Rattle.value.specs.Value.{widthOf}
 use Rattle.cell.specs.declared.Shape.{Shape}
 use Rattle.cell.specs.declared.Shape.the-variants.{BLANK, NUMBER, RK, LABELSST, BOOLERR, MULRK, MULBLANK, FORMULA, OTHER}
@@ -23,13 +24,17 @@ use Rattle.cell.specs.declared.Judged.{Judged}
 use Rattle.cell.specs.declared.Judged.the-variants as judged
 use Rattle.cell.specs.Cells.{shapeOf, isCell, fieldOf, countOf, judgeOf, judged}
 use Rattle.change.specs.declared.NewValue.{NewValue}
+use Rattle.change.specs.declared.NewValue.the-variants.{Number, Text, Truth, Error}
 use Rattle.change.specs.declared.Plan.the-variants.{Put}
 use Rattle.change.specs.Change.{Held, planOf, changed}
 use Rattle.kept.specs.Claims.{placeOf, putInto}
 use Rattle.kept.proofs.Records.{right}
 use Rattle.kept.proofs.Written.{written-passes}
+use Rattle.textresult.specs.TextResult.{hasText}
 use Rattle.substream.specs.declared.Here.{Here}
-use Rattle.substream.specs.Substream.{onJudged, recordIn}
+use Rattle.substream.specs.declared.Step.the-variants.{More}
+use Rattle.substream.specs.Substream.{pastParent, passedRecord, onJudged, recordIn}
+use Rattle.cell.proofs.Sizes.{formula-shape}
 use Rattle.sheetlist.specs.Agreement.{agreementOf}
 use Rattle.globals.specs.declared.Globals.{Globals}
 use Rattle.globals.specs.declared.Ended.the-variants as globals
@@ -58,7 +63,7 @@ use Rattle.upheld.proofs.Granted.{granted, listed-only, listed-here, li
 use Rattle.upheld.proofs.Beside.{beside-agrees, beside-sheets}
 
 -- ---- a record that has a cell is a cell record
-has-cell : (h : Shape) (s : List ℕ) (at z k : ℕ) → k < countOf h s at z → isCell h ≡ true
+pub has-cell : (h : Shape) (s : List ℕ) (at z k : ℕ) → k < countOf h s at z → isCell h ≡ true
 has-cell BLANK s at z k l = refl
 has-cell NUMBER s at z k l = refl
 has-cell RK s at z k l = refl
@@ -69,12 +74,12 @@ has-cell MULBLANK s at z k l = refl
 has-cell FORMULA s at z k l = refl
 has-cell OTHER s at z k l = absurd (omega arith)
 
-abbrev NotOther : Judged → Type 0
+abbrev pub NotOther : Judged → Type 0
 NotOther (judged.Passed n) = Unit {0}
 NotOther (judged.Refused n o) = Unit {0}
 NotOther judged.Other = ⊥
 
-cell-judged : (h : Shape) (s : List ℕ) (at z u : ℕ) → isCell h ≡ true → NotOther (judgeOf s h at z u)
+pub cell-judged : (h : Shape) (s : List ℕ) (at z u : ℕ) → isCell h ≡ true → NotOther (judgeOf s h at z u)
 unfolding judgeOf judged
 cell-judged h s at z u c =
     pick-by NotOther (isCell h)
@@ -91,6 +96,18 @@ zero-other = refl
 boundsheet-other : shapeOf 0x0085 ≡ OTHER
 unfolding shapeOf pick
 boundsheet-other = refl
+
+-- a formula takes no value
+pub formula-takes : (v : NewValue) (u b : ℕ) → planOf StoredResult v u ≡ Put b → ⊥
+formula-takes (Number x) u b h = never (cc)
+formula-takes (Text i) u b h = never (cc)
+formula-takes (Truth t) u b h = never (cc)
+formula-takes (Error e) u b h = never (cc)
+
+-- past a record that is no FORMULA no text result is looked for
+plain-passed : (s : List ℕ) (at t e : ℕ) → (t ≡ 0x0006 → ⊥) → passedRecord s at t e ≡ More (pastParent e)
+unfolding passedRecord hasText
+plain-passed s at t e h = sym (pick-false (More (pastParent e)) _ _ _ (sym (pick-ne false _ _ t 0x0006 h refl)) refl)
 
 -- ---- the correction
 module _ (s : List ℕ) (n row column : ℕ) (v : NewValue) (f : Field) (p b : ℕ) (held : Held v) (given : Granted s n row column v f p b) where
@@ -153,6 +170,13 @@ module _ (s : List ℕ) (n row column : ℕ) (v : NewValue) (f : Field) (p b : �
   after : (j : ℕ) → e ≤ j → getD s j 0 ≡ getD s′ j 0
   after j i = let m = field-high stands in let q = given .field in let d = ap widthOf (given .kind) in elsewhere j (inr (omega arith))
 
+  -- ---- it holds cells, and is no formula
+  cells : shapeOf t ≡ OTHER → ⊥
+  cells o = let l : k < 0 = subst (λ (x : Shape). k < countOf x s a z) o below in omega arith
+
+  formula-not : t ≡ 0x0006 → ⊥
+  formula-not q = formula-takes v (g .unique) b (ap (λ (x : Field). planOf x v (g .unique)) (sym (ap fieldOf (ap shapeOf q ∙ formula-shape))) ∙ plan-is)
+
   -- ---- the record passes in a worksheet as it did, and is passed over elsewhere
   judged-same : (m : ℕ) → judgeOf s h a z (g .unique) ≡ judged.Passed m → judgeOf s′ h a z (g .unique) ≡ judged.Passed m
   judged-same m i =
@@ -164,7 +188,8 @@ module _ (s : List ℕ) (n row column : ℕ) (v : NewValue) (f : Field) (p b : �
   kept-by : (j : ℕ) (w : Here) → w .at ≡ a → (x : Judged) → judgeOf s h (w .at) z (g .unique) ≡ x → Moves (onJudged s j w t z e x)
       → onJudged s j w t z e x ≡ onJudged s′ j w t z e (judgeOf s′ h (w .at) z (g .unique))
   kept-by j w q (judged.Passed m) i o =
-      ap (onJudged s′ j w t z e)
+      plain-passed s (w .at) t e formula-not ∙ sym (plain-passed s′ (w .at) t e formula-not)
+      ∙ ap (onJudged s′ j w t z e)
       (sym (ap (λ (x : ℕ). judgeOf s′ h x z (g .unique)) q ∙ judged-same m (ap (λ (x : ℕ). judgeOf s h x z (g .unique)) (sym q) ∙ i)))
   kept-by j w q (judged.Refused m r) i o = absurd o
   kept-by j w q judged.Other i o = absurd (subst NotOther i (cell-judged h s (w .at) z (g .unique) (has-cell h s a z k below)))
@@ -178,7 +203,7 @@ module _ (s : List ℕ) (n row column : ℕ) (v : NewValue) (f : Field) (p b : �
 
   -- ---- the two streams agree at each place beside it
   agrees : Agreeing s s′ (g .unique) (Beside s a e)
-  agrees = beside-agrees s s′ len a t z e is before after (g .unique) kept (not-type t s a z k below 0 zero-other)
+  agrees = beside-agrees s s′ len a t z e is before after (g .unique) cells kept (not-type t s a z k below 0 zero-other)
 
   -- ---- it is reached from the end of the globals, and from the end of their BOF
   passed : Passing s 0 g

@@ -1,7 +1,7 @@
 //! The questions, and how each is answered.
 
 use crate::words::{bytes, number};
-use station::{Cell, Pair, Refusal};
+use station::{Cell, Pair, Refusal, LONGEST_STRING};
 use std::fmt::Write;
 
 /// A question: its name, the words after it, what it asks, and the answer to such words; none where they are not what it takes.
@@ -13,7 +13,7 @@ struct Question {
 }
 
 /// All of them.
-const QUESTIONS: [Question; 5] = [
+const QUESTIONS: [Question; 6] = [
     Question {
         name: "check",
         words: "S",
@@ -31,6 +31,12 @@ const QUESTIONS: [Question; 5] = [
         words: "S SHEET",
         asks: "the cells of a sheet, with format and place",
         answer: cells,
+    },
+    Question {
+        name: "text",
+        words: "S SHEET ROW COLUMN UNITS",
+        asks: "the text of a formula's result, for a buffer of UNITS units",
+        answer: text,
     },
     Question {
         name: "profile",
@@ -65,7 +71,7 @@ pub fn help() -> String {
     for question in &QUESTIONS {
         let usage = format!("{} {}", question.name, question.words);
         // Writing to a string never fails.
-        let _ = writeln!(help, "  {usage:24}{}", question.asks);
+        let _ = writeln!(help, "  {usage:32}{}", question.asks);
     }
     help
 }
@@ -109,6 +115,32 @@ fn joined(cells: impl Iterator<Item = Cell>) -> String {
         let _ = write!(line, "{between}{cell} format {format} place {place}");
     }
     if line.is_empty() {
+        line.push('-');
+    }
+    line
+}
+
+fn text(words: &[&[u8]]) -> Option<String> {
+    let [stream, sheet, row, column, room] = words else {
+        return None;
+    };
+    let stream = bytes(stream)?;
+    let (sheet, row, column) = (number(sheet)?, number(row)?, number(column)?);
+    // A larger buffer answers the same.
+    let room = (number(room)? as usize).min(LONGEST_STRING);
+    let mut buffer = vec![0; room];
+    let answer = station::text(&stream, sheet, row, column, &mut buffer);
+    Some(answer.map_or_else(|refusal| refusal.line(), |count| units(&buffer[..count])))
+}
+
+/// How many units there are, and the units as one run of hex; `-` for none.
+fn units(units: &[u16]) -> String {
+    let mut line = format!("units {} ", units.len());
+    for unit in units {
+        // Writing to a string never fails.
+        let _ = write!(line, "{unit:04X}");
+    }
+    if units.is_empty() {
         line.push('-');
     }
     line

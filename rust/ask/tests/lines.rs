@@ -385,6 +385,62 @@ fn a_closed_pipe() {
     );
 }
 
+/// The text of a formula's result, by its cell.
+#[test]
+fn texts_of_formulas() {
+    let results = Path::new(env!("CARGO_MANIFEST_DIR")).join("../../cases/results.in");
+    let results = hex(&fs::read(results).expect("a stored case"));
+    let asked = [
+        ("0\t3\t1\t5", "units 5 006C006100620065006C"),
+        ("0\t3\t1\t4294967295", "units 5 006C006100620065006C"),
+        ("0\t3\t1\t4", "refused 12 at 0"),
+        ("0\t3\t0\t5", "refused 11 at 0"),
+        ("0\t3\t257\t5", "refused 11 at 0"),
+        ("1\t3\t1\t5", "refused 11 at 0"),
+        ("0\t3\t1", "wrong question"),
+        ("0\t3\t1\t5\t", "wrong question"),
+        ("0\t3\tB\t5", "wrong question"),
+    ];
+    let questions = asked.map(|(words, _)| format!("text\t{results}\t{words}"));
+    assert_eq!(answers(&questions), asked.map(|(_, answer)| answer));
+}
+
+#[test]
+fn made_texts() {
+    let made: Vec<_> = (0..400).map(streams::stream).collect();
+    let mut questions = Vec::new();
+    let mut wanted = Vec::new();
+    for (seed, stream) in (0..).zip(&made) {
+        let ask = streams::text(seed, stream);
+        let (sheet, row, column) = (ask.sheet, ask.row, ask.column);
+        let mut buffer = vec![0; ask.units];
+        let answer = second_reader::text(stream, sheet, row, column, &mut buffer);
+        wanted.push(answer.map_or_else(refused, |count| units(&buffer[..count])));
+        let stream = hex(stream);
+        questions.push(format!(
+            "text\t{stream}\t{sheet}\t{row}\t{column}\t{}",
+            ask.units
+        ));
+    }
+    assert_eq!(answers(&questions), wanted);
+    assert!(
+        wanted
+            .iter()
+            .filter(|line| line.starts_with("units"))
+            .count()
+            > 10
+    );
+}
+
+/// The line for these units.
+fn units(units: &[u16]) -> String {
+    let hex: String = units.iter().map(|unit| format!("{unit:04X}")).collect();
+    match units {
+        [] => "units 0 -".to_string(),
+        _ => format!("units {} {hex}", units.len()),
+    }
+}
+
 #[test]
 fn help_and_arguments() {
     let run = |argument| {
@@ -400,6 +456,7 @@ fn help_and_arguments() {
         "check S ",
         "judge TOKENS TRAILING ",
         "cells S SHEET ",
+        "text S SHEET ROW COLUMN UNITS ",
         "profile S ",
         "cadence S ROW ",
     ] {

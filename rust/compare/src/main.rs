@@ -3,6 +3,7 @@
 //! agree. Prints how often each refusal was met; the exit status is 1 where there was a difference, or where a refusal was met fewer than a hundred
 //! times in a run of 100,000 seeds or more.
 
+use std::collections::HashSet;
 use std::fmt::Debug;
 use std::ops::Range;
 use std::process::ExitCode;
@@ -62,8 +63,10 @@ impl Comparison {
             (Ok(workbook), Ok(reading)) => {
                 let all: Vec<_> = workbook.sheets().collect();
                 self.hold("sheets", seed, all.len(), reading.sheets.len());
-                for (sheet, other) in all.iter().zip(&reading.sheets) {
+                for (number, (sheet, other)) in all.iter().zip(&reading.sheets).enumerate() {
                     self.sheet(seed, stream, sheet, other);
+                    self.texts(seed, &workbook, sheet, other);
+                    self.texts_by_cell(seed, stream, number as u32, other);
                 }
                 let strings: Vec<_> = workbook.strings().collect();
                 self.hold("strings", seed, strings, reading.strings.clone());
@@ -108,6 +111,94 @@ impl Comparison {
             wanted.extend([0xABCD; 2]);
             self.hold("fetch", seed, (answer, buffer), (Ok(units.len()), wanted));
         }
+    }
+
+    /// The text of each listed cell's result, into a buffer with room to spare and into one a unit short; and none of the cells that have another value.
+    fn texts(
+        &mut self,
+        seed: u64,
+        workbook: &station::Workbook<'_>,
+        sheet: &station::Sheet<'_>,
+        other: &second_reader::Sheet,
+    ) {
+        let mut texts = other.texts.iter();
+        for (cell, theirs) in sheet.cells().zip(&other.cells) {
+            let text = theirs.has_text_result().then(|| texts.next()).flatten();
+            if text.is_none() && !starts_its_record(theirs) {
+                continue;
+            }
+            let units = text.map_or(4, Vec::len);
+            self.text_of("text of a listed cell", seed, text, units + 2, |buffer| {
+                workbook.text(&cell, buffer)
+            });
+            if let Some(short) = units.checked_sub(1) {
+                self.text_of("text of a listed cell", seed, text, short, |buffer| {
+                    workbook.text(&cell, buffer)
+                });
+            }
+        }
+        self.hold("texts", seed, texts.next(), None);
+    }
+
+    /// Each text by the address of its cell, where that is the first listed there.
+    fn texts_by_cell(
+        &mut self,
+        seed: u64,
+        stream: &[u8],
+        number: u32,
+        sheet: &second_reader::Sheet,
+    ) {
+        if sheet.texts.is_empty() {
+            return;
+        }
+        let mut met = HashSet::new();
+        let mut texts = sheet.texts.iter();
+        for cell in &sheet.cells {
+            let text = cell.has_text_result().then(|| texts.next()).flatten();
+            let first = met.insert((cell.row, cell.column));
+            let (Some(units), true) = (text, first) else {
+                continue;
+            };
+            let (row, column) = (cell.row.into(), cell.column.into());
+            self.text_of("text", seed, text, units.len() + 2, |buffer| {
+                station::text(stream, number, row, column, buffer)
+            });
+        }
+    }
+
+    /// One answer, with every unit of the buffer: the text, absent, or too long for it.
+    fn text_of(
+        &mut self,
+        question: &str,
+        seed: u64,
+        text: Option<&Vec<u16>>,
+        room: usize,
+        ask: impl FnOnce(&mut [u16]) -> Result<usize, station::Refusal>,
+    ) {
+        let mut buffer = vec![0xABCD; room];
+        let mut wanted = buffer.clone();
+        let answer = match text {
+            None => Err((11, 0)),
+            Some(units) if units.len() > room => Err((12, 0)),
+            Some(units) => {
+                wanted[..units.len()].copy_from_slice(units);
+                Ok(units.len())
+            }
+        };
+        let given = ours(ask(&mut buffer));
+        self.hold(question, seed, (given, buffer), (answer, wanted));
+    }
+
+    /// The text of an address, whatever is there.
+    fn text(&mut self, seed: u64, stream: &[u8]) {
+        let question = streams::text(seed, stream);
+        let (sheet, row, column) = (question.sheet, question.row, question.column);
+        let mut buffer = vec![0xABCD; question.units];
+        let mut other = buffer.clone();
+        let one = ours(station::text(stream, sheet, row, column, &mut buffer));
+        let two = theirs(second_reader::text(stream, sheet, row, column, &mut other));
+        self.count(&one);
+        self.hold("text", seed, (one, buffer), (two, other));
     }
 
     fn fetch(&mut self, seed: u64, stream: &[u8]) {
@@ -215,6 +306,7 @@ impl Comparison {
         self.check(seed, &stream);
         self.list(seed, &stream);
         self.fetch(seed, &stream);
+        self.text(seed, &stream);
         self.judge(seed);
         for turn in 0..3 {
             self.correct(3 * seed + turn, &stream);
@@ -222,6 +314,17 @@ impl Comparison {
         if seed.is_multiple_of(2) {
             self.session(seed, &streams::session(seed));
         }
+    }
+}
+
+/// Whether the bytes ten before a cell's value field are its record's header: there is no other record for a reader to find there.
+fn starts_its_record(cell: &second_reader::Cell) -> bool {
+    use second_reader::Value;
+    match cell.value {
+        Value::Blank => false,
+        // A MULRK has one header for many words.
+        Value::Number(_) => cell.value_field.len() == 8,
+        Value::Text(_) | Value::Truth(_) | Value::Error(_) | Value::Formula(_) => true,
     }
 }
 

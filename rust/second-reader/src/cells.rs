@@ -5,6 +5,8 @@ use crate::rk;
 use std::ops::Range;
 
 const COLUMNS: u16 = 256;
+/// Where a FORMULA's result stands in its body.
+pub(crate) const FORMULA_RESULT_AT: usize = 6;
 
 /// What a cell holds. Numbers are kept as their 64 bits, since they are
 /// compared by them.
@@ -29,7 +31,7 @@ pub enum Value {
 pub enum FormulaResult {
     /// The 64 bits of a number.
     Number(u64),
-    /// A text, which the cell's record doesn't hold.
+    /// A text, which stands in a STRING record after the cell's.
     Text,
     /// 0 or 1.
     Truth(u8),
@@ -59,6 +61,14 @@ pub struct Cell {
     /// a formula result or two bytes of truth or error. For a blank, where its
     /// format stands.
     pub value_field: Range<usize>,
+}
+
+impl Cell {
+    /// Whether it is a formula whose result is a text.
+    #[inline]
+    pub fn has_text_result(&self) -> bool {
+        self.value == Value::Formula(FormulaResult::Text)
+    }
 }
 
 /// Whether an error code is one of the seven.
@@ -199,7 +209,7 @@ fn formula(record: &Record<'_>) -> Result<Cell, u8> {
     Ok(Cell {
         tokens: tokens_at..tokens_end,
         trailing: tokens_end..tokens_at + rest.len(),
-        ..cell(record, &start, value, 6..14)?
+        ..cell(record, &start, value, FORMULA_RESULT_AT..14)?
     })
 }
 

@@ -1,7 +1,7 @@
 //! Comparing two revisions of a workbook: where they differ, by sheet, row and
 //! column.
 
-use crate::cells::{FormulaResult, Value};
+use crate::cells::Value;
 use crate::sheets::SheetEntry;
 use crate::survey::Survey;
 use crate::Refusal;
@@ -99,6 +99,8 @@ struct Cell {
     column: u16,
     /// Its value, with a text's number in place of its index.
     value: Value,
+    /// The number of the text that its formula has for a result.
+    result: Option<u32>,
 }
 
 impl Cell {
@@ -111,13 +113,13 @@ impl Cell {
 fn sheets(stream: &[u8], survey: &Survey<'_>, texts: &mut Texts) -> Result<Vec<Sheet>, Refusal> {
     let strings = survey.strings.all()?;
     let shown: Vec<u32> = strings.into_iter().map(|text| texts.number(text)).collect();
-    let sheet = |(number, entry)| {
+    let mut sheet = |(number, entry)| {
         Ok(Sheet {
             name: name(stream, entry),
-            cells: cells(survey, number, &shown)?,
+            cells: cells(survey, number, &shown, texts)?,
         })
     };
-    survey.sheets.iter().enumerate().map(sheet).collect()
+    survey.sheets.iter().enumerate().map(&mut sheet).collect()
 }
 
 /// The characters of a sheet's name, whatever width they are written in.
@@ -133,9 +135,18 @@ fn name(stream: &[u8], entry: &SheetEntry) -> Vec<u16> {
 
 /// The cells of a sheet by row and column, or 16 where an address is there
 /// twice. `shown` has the text's number for each index.
-fn cells(survey: &Survey<'_>, sheet: usize, shown: &[u32]) -> Result<Vec<Cell>, Refusal> {
+fn cells(
+    survey: &Survey<'_>,
+    sheet: usize,
+    shown: &[u32],
+    texts: &mut Texts,
+) -> Result<Vec<Cell>, Refusal> {
     let mut cells = Vec::new();
+    let mut results = Vec::new();
     survey.list(sheet, |cell| {
+        if cell.has_text_result() {
+            results.push((cells.len(), cell.clone()));
+        }
         cells.push(Cell {
             row: cell.row,
             column: cell.column,
@@ -143,8 +154,14 @@ fn cells(survey: &Survey<'_>, sheet: usize, shown: &[u32]) -> Result<Vec<Cell>, 
                 Value::Text(index) => Value::Text(shown[index as usize]),
                 value => value,
             },
+            result: None,
         });
     })?;
+    for (place, cell) in results {
+        if let Some(text) = survey.text(&cell)? {
+            cells[place].result = Some(texts.number(text.units()?));
+        }
+    }
     cells.sort_unstable_by_key(Cell::place);
     if cells.is_sorted_by(|earlier, later| earlier.place() < later.place()) {
         Ok(cells)
@@ -188,7 +205,7 @@ fn compare_cells(
         match order {
             Ordering::Less => differences.push(Difference::First(address(cell))),
             Ordering::Greater => differences.push(Difference::Second(address(cell))),
-            Ordering::Equal if equal_values(first[0].value, second[0].value) => {}
+            Ordering::Equal if equal_values(&first[0], &second[0]) => {}
             Ordering::Equal => differences.push(Difference::Unequal(address(cell))),
         }
         first = &first[usize::from(order.is_le())..];
@@ -210,18 +227,9 @@ fn next<'c>(first: &'c [Cell], second: &'c [Cell]) -> Option<(Ordering, &'c Cell
     }
 }
 
-/// Whether two values are equal: of one kind and with the same content, numbers
-/// by their 64 bits and texts by their number. So a formula never equals a
-/// plain value.
-fn equal_values(first: Value, second: Value) -> bool {
-    match (first, second) {
-        (Value::Formula(first), Value::Formula(second)) => equal_results(first, second),
-        _ => first == second,
-    }
-}
-
-/// Whether the results of two formulas are equal. The units of a text result
-/// are not read, so two text results are.
-fn equal_results(first: FormulaResult, second: FormulaResult) -> bool {
-    first == second
+/// Whether two cells have equal values: of one kind and with the same content,
+/// numbers by their 64 bits and texts by their number, a formula's too. So a
+/// formula never equals a plain value.
+fn equal_values(first: &Cell, second: &Cell) -> bool {
+    first.value == second.value && first.result == second.result
 }

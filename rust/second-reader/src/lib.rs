@@ -31,6 +31,7 @@ mod session;
 mod sheets;
 mod strings;
 mod survey;
+mod text_results;
 mod trailing;
 
 pub use cells::{Cell, FormulaResult, Value};
@@ -41,7 +42,7 @@ pub use formula::judge;
 pub use journal::{correct_journalled, replay, start_journal, Direction, Unreplayed};
 pub use pair::{
     pair_cells, pair_check, pair_correct, pair_fetch, pair_fill, pair_sheet, pair_sheet_name,
-    PairRefusal, PairSheet, Whose,
+    pair_text, PairRefusal, PairSheet, Whose,
 };
 pub use places::{fetch_through, fill};
 pub use print::{lines, print};
@@ -86,6 +87,8 @@ pub struct Sheet {
     pub rows: u32,
     /// The cells in stream order; empty for macro sheets and charts.
     pub cells: Vec<Cell>,
+    /// The units of each formula's text result, in the order of their cells.
+    pub texts: Vec<Vec<u16>>,
 }
 
 /// Checks a stream, and counts what it holds.
@@ -100,12 +103,19 @@ pub fn read(stream: &[u8]) -> Result<Reading, Refusal> {
     for (number, entry) in survey.sheets.iter().enumerate() {
         let mut cells = Vec::new();
         survey.list(number, |cell| cells.push(cell.clone()))?;
+        let mut texts = Vec::new();
+        for cell in &cells {
+            if let Some(text) = survey.text(cell)? {
+                texts.push(text.units()?);
+            }
+        }
         sheets.push(Sheet {
             name: entry.name.clone(),
             wide: entry.wide,
             sheet_type: entry.sheet_type,
             rows: survey.substream(number)?.rows,
             cells,
+            texts,
         });
     }
     let strings = survey.strings.all()?;
@@ -123,4 +133,18 @@ pub fn list_cells<F: FnMut(&Cell)>(stream: &[u8], sheet: usize, take: F) -> Resu
 /// of the buffer and gives their number. Later units stay as they were.
 pub fn fetch(stream: &[u8], index: u32, buffer: &mut [u16]) -> Result<usize, Refusal> {
     Survey::of(stream)?.strings.fetch(index, buffer)
+}
+
+/// Checks the whole stream, then writes the units of the text that a cell's
+/// formula has for its result at the start of the buffer and gives their number.
+/// Of several cells at one address the first listed is meant. Later units stay
+/// as they were.
+pub fn text(
+    stream: &[u8],
+    sheet: u32,
+    row: u32,
+    column: u32,
+    buffer: &mut [u16],
+) -> Result<usize, Refusal> {
+    Survey::of(stream)?.fetch_text((sheet, row, column), buffer)
 }

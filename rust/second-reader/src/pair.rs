@@ -124,6 +124,25 @@ pub fn pair_fetch(
     Ok((table_of, length))
 }
 
+/// Checks both streams, then writes the units of the text that a cell's formula
+/// has for its result, as `text` does for one stream. Gives the stream that the
+/// sheet comes from, and the number of units.
+pub fn pair_text(
+    template: &[u8],
+    session: &[u8],
+    sheet: u32,
+    row: u32,
+    column: u32,
+    buffer: &mut [u16],
+) -> Result<(Whose, usize), PairRefusal> {
+    let pair = Pair::of(template, session)?;
+    let (whose, survey, _) = pair.sheet(sheet)?;
+    let length = survey
+        .fetch_text((sheet, row, column), buffer)
+        .map_err(PairRefusal::Question)?;
+    Ok((whose, length))
+}
+
 /// Corrects one cell of the session, changing no byte but its value field, and
 /// none at all where it refuses. A sheet that only the template has takes no
 /// correction, whatever is asked for in it.

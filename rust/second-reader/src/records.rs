@@ -20,7 +20,11 @@ pub(crate) mod kind {
     pub const BLANK: u16 = 0x0201;
     pub const NUMBER: u16 = 0x0203;
     pub const BOOLERR: u16 = 0x0205;
+    pub const STRING: u16 = 0x0207;
+    pub const ARRAY: u16 = 0x0221;
+    pub const TABLE: u16 = 0x0236;
     pub const RK: u16 = 0x027E;
+    pub const SHRFMLA: u16 = 0x04BC;
     pub const BOF: u16 = 0x0809;
 }
 

@@ -1,4 +1,6 @@
-//! The shared string table: an SST record and the CONTINUEs right after it.
+//! The shared string table: an SST record and the CONTINUEs right after it. The
+//! text of a formula's result is split in the same way: a STRING record and the
+//! CONTINUEs right after it.
 
 use crate::records::{kind, Record, Records};
 use crate::Refusal;
@@ -18,7 +20,7 @@ impl<'a> StringTable<'a> {
     /// Judges the table that starts with this SST record, and moves `records`
     /// past its CONTINUEs.
     pub fn read(sst: &Record<'a>, records: &mut Records<'a>) -> Result<Self, Refusal> {
-        let mut segments = Segments::new(sst, records.clone());
+        let mut segments = Segments::new(Holds::Table, sst, records.clone());
         let counts = segments.piece(COUNTS_SIZE)?;
         // The total in the first four bytes is not judged.
         let unique = u32::from_le_bytes([counts[4], counts[5], counts[6], counts[7]]);
@@ -114,6 +116,38 @@ impl<'a> StringTable<'a> {
     }
 }
 
+/// The text of one formula's result.
+#[derive(Clone, Debug)]
+pub(crate) struct ResultText<'a> {
+    first: Segments<'a>,
+}
+
+impl<'a> ResultText<'a> {
+    /// Judges the text that starts with this STRING record, and moves `records`
+    /// past its CONTINUEs. Its head stands in the STRING itself.
+    pub fn read(text: &Record<'a>, records: &mut Records<'a>) -> Result<Self, Refusal> {
+        let first = Segments::new(Holds::Result, text, records.clone());
+        let mut segments = first.clone();
+        let head = Head::read(&mut segments)?;
+        characters(&mut segments, &head, |_| ())?;
+        segments.finish()?;
+        *records = segments.records;
+        Ok(ResultText { first })
+    }
+
+    /// Its units.
+    pub fn units(&self) -> Result<Vec<u16>, Refusal> {
+        let mut units = Vec::new();
+        string(&mut self.first.clone(), |part| part.append_to(&mut units))?;
+        Ok(units)
+    }
+
+    /// Writes its units at the start of the buffer.
+    pub fn fetch(self, buffer: &mut [u16]) -> Result<usize, Refusal> {
+        write_next(self.first, buffer)
+    }
+}
+
 /// Writes the units of the string whose head is said to stand at `head`, in the
 /// record whose header is said to stand at `segment`. Nothing is known of the
 /// stream, so the string is read to its end before a unit is written; whatever
@@ -163,10 +197,37 @@ impl Characters<'_> {
     }
 }
 
-/// The part of a table that is still unread: the rest of the segment being
-/// read, and the records after that segment.
+/// What some segments hold.
+#[derive(Clone, Copy, Debug)]
+enum Holds {
+    /// The shared string table.
+    Table,
+    /// One formula's text. Only bit 0 of its flags counts.
+    Result,
+}
+
+impl Holds {
+    /// The refusal where they are broken.
+    fn refusal(self, at: usize) -> Refusal {
+        let number = match self {
+            Holds::Table => 8,
+            Holds::Result => 6,
+        };
+        Refusal::new(number, at)
+    }
+
+    /// Whether a string may have runs and phonetic bytes.
+    #[inline]
+    fn more_than_characters(self) -> bool {
+        matches!(self, Holds::Table)
+    }
+}
+
+/// The part of a table or text that is still unread: the rest of the segment
+/// being read, and the records after that segment.
 #[derive(Clone, Debug)]
 struct Segments<'a> {
+    holds: Holds,
     /// Where the header of the segment being read stands.
     at: usize,
     rest: &'a [u8],
@@ -174,8 +235,9 @@ struct Segments<'a> {
 }
 
 impl<'a> Segments<'a> {
-    fn new(segment: &Record<'a>, records: Records<'a>) -> Self {
+    fn new(holds: Holds, segment: &Record<'a>, records: Records<'a>) -> Self {
         Segments {
+            holds,
             at: segment.at,
             rest: segment.body,
             records,
@@ -195,6 +257,7 @@ impl<'a> Segments<'a> {
         }
         let before = head.checked_sub(record.body_at())?;
         let segments = Segments {
+            holds: Holds::Table,
             at: record.at,
             rest: record.body.get(before..)?,
             records,
@@ -208,7 +271,7 @@ impl<'a> Segments<'a> {
     }
 
     fn broken(&self) -> Refusal {
-        Refusal::new(8, self.at)
+        self.holds.refusal(self.at)
     }
 
     #[inline]
@@ -258,8 +321,8 @@ impl<'a> Segments<'a> {
         Ok((count, self.piece(count * width)?))
     }
 
-    /// The table must end with the segment being read, and no CONTINUE may
-    /// follow it.
+    /// The table or text must end with the segment being read, and no CONTINUE
+    /// may follow it.
     fn finish(&mut self) -> Result<(), Refusal> {
         if !self.is_spent() {
             return Err(self.broken());
@@ -268,7 +331,7 @@ impl<'a> Segments<'a> {
             // One that is cut is refused as such, as any record would be.
             let at = self.records.at();
             self.records.next()?;
-            return Err(Refusal::new(8, at));
+            return Err(self.holds.refusal(at));
         }
         Ok(())
     }
@@ -287,7 +350,8 @@ impl Head {
     fn read(segments: &mut Segments<'_>) -> Result<Self, Refusal> {
         let start = segments.piece(3)?;
         let flags = start[2];
-        let (phonetic, rich) = (flags & 4 != 0, flags & 8 != 0);
+        let more = segments.holds.more_than_characters();
+        let (phonetic, rich) = (more && flags & 4 != 0, more && flags & 8 != 0);
         let runs = if rich {
             let count = segments.piece(2)?;
             usize::from(u16::from_le_bytes([count[0], count[1]]))

@@ -4,7 +4,8 @@
 use crate::cells::{each_cell, Cell};
 use crate::records::{kind, Record, Records};
 use crate::sheets::{match_up, SheetEntry, SheetType};
-use crate::strings::StringTable;
+use crate::strings::{ResultText, StringTable};
+use crate::text_results;
 use crate::{Passed, Refusal};
 
 pub(crate) const LONGEST_STREAM: usize = 16_777_216;
@@ -102,6 +103,33 @@ impl<'a> Survey<'a> {
                 .map(|_| ())
                 .map_err(|number| record.refuse(number))
         })
+    }
+
+    /// The text of a listed cell's result, where it is a formula with one.
+    pub fn text(&self, cell: &Cell) -> Result<Option<ResultText<'a>>, Refusal> {
+        if cell.has_text_result() {
+            text_results::at(self.stream, cell.value_field.start).map(Some)
+        } else {
+            Ok(None)
+        }
+    }
+
+    /// Writes the units of the text that the first listed cell of an address has
+    /// for its result. Whatever else that cell holds, a later one isn't looked at.
+    pub fn fetch_text(
+        &self,
+        (sheet, row, column): (u32, u32, u32),
+        buffer: &mut [u16],
+    ) -> Result<usize, Refusal> {
+        let absent = Refusal::of_question(11);
+        let mut first = None;
+        self.list(sheet as usize, |cell| {
+            if (u32::from(cell.row), u32::from(cell.column)) == (row, column) {
+                first.get_or_insert_with(|| cell.clone());
+            }
+        })?;
+        let text = self.text(&first.ok_or(absent)?)?;
+        text.ok_or(absent)?.fetch(buffer)
     }
 
     /// Hands over the records that stand directly in a sheet, its cells among
@@ -280,12 +308,32 @@ fn worksheet(records: &mut Records<'_>, unique: u32) -> Result<Tally, Refusal> {
             kind::BOF => inner_chart(&record, records, INNER_DEPTHS)?,
             kind::CONTINUE if barred => return Err(record.refuse(7)),
             kind::DIMENSIONS => dimensions(&record)?,
+            // A formula that waits for one has taken it.
+            kind::STRING => return Err(record.refuse(6)),
+            kind::FORMULA => {
+                let waits = formula(&record, &mut tally)?;
+                bars_continue = true;
+                if waits {
+                    text_results::read(&record, records)?;
+                }
+            }
             _ => {
                 bars_continue = each_cell(&record, unique, |cell| tally.add(&cell))
                     .map_err(|number| record.refuse(number))?;
             }
         }
     }
+}
+
+/// Counts a formula's cell, and gives whether it waits for its text.
+fn formula(record: &Record<'_>, tally: &mut Tally) -> Result<bool, Refusal> {
+    let mut waits = false;
+    each_cell(record, 0, |cell| {
+        tally.add(&cell);
+        waits = cell.has_text_result();
+    })
+    .map_err(|number| record.refuse(number))?;
+    Ok(waits)
 }
 
 /// Reads a chart or macro sheet after its BOF, to its EOF. No cells are listed

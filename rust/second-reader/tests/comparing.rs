@@ -141,8 +141,13 @@ fn sheet(records: &[Made]) -> Vec<u8> {
 /// Whether two records at row 0, column 0 hold equal values.
 #[track_caller]
 fn equal(one: Made, other: Made) -> bool {
+    equal_in(&[one], &[other])
+}
+
+/// The same for cells that take more than a record.
+fn equal_in(one: &[Made], other: &[Made]) -> bool {
     let strings = sst(2, &[0, 0, 0, 1, 0, 0, b'x']);
-    let made = |record: Made| book(&[&strings], &[page(&[record])]);
+    let made = |records: &[Made]| book(&[&strings], &[page(records)]);
     let (one, other) = (made(one), made(other));
     let differences = compare(&one, &other).unwrap();
     assert_eq!(compare(&other, &one).unwrap(), differences);
@@ -248,7 +253,11 @@ fn c4_blanks_are_cells() {
 
 #[test]
 fn c5_kinds_never_equal_each_other() {
-    let kinds = [
+    let mut kinds = vec![vec![
+        formula(0, 0, marked(0, 0, 0), &[], &[]),
+        (STRING, vec![0, 0, 0]),
+    ]];
+    let others = [
         blank(0, 0),
         number(0, 0, 0),
         number(0, 0, ONE),
@@ -260,16 +269,16 @@ fn c5_kinds_never_equal_each_other() {
         truth_or_error(0, 0, 7, 1),
         formula(0, 0, [0; 8], &[], &[]),
         formula(0, 0, ONE.to_le_bytes(), &[], &[]),
-        formula(0, 0, marked(0, 0, 0), &[], &[]),
         formula(0, 0, marked(1, 0, 0), &[], &[]),
         formula(0, 0, marked(1, 1, 0), &[], &[]),
         formula(0, 0, marked(2, 0, 0), &[], &[]),
         formula(0, 0, marked(2, 7, 0), &[], &[]),
         formula(0, 0, marked(3, 0, 0), &[], &[]),
     ];
+    kinds.extend(others.map(|record| vec![record]));
     for (i, one) in kinds.iter().enumerate() {
         for (j, other) in kinds.iter().enumerate() {
-            assert_eq!(equal(one.clone(), other.clone()), i == j, "{i} {j}");
+            assert_eq!(equal_in(one, other), i == j, "{i} {j}");
         }
     }
 }
@@ -353,10 +362,25 @@ fn c7_formulas_by_their_results() {
 }
 
 #[test]
-fn c8_text_results_are_bare() {
-    let result = |field| formula(0, 0, field, &[], &[]);
-    assert!(equal(result(marked(0, 0, 0)), result(marked(0, 7, 9))));
-    assert!(!equal(result(marked(0, 0, 0)), result(marked(3, 0, 0))));
+fn c8_text_results_by_units() {
+    let shown = |field, text: &[u8]| [formula(0, 0, field, &[], &[]), (STRING, text.to_vec())];
+    let narrow = shown(marked(0, 0, 0), &[2, 0, 0, b'A', b'b']);
+    // Bytes of the result that mean nothing, and another width.
+    let same = [
+        shown(marked(0, 7, 9), &[2, 0, 0, b'A', b'b']),
+        shown(marked(0, 0, 0), &[2, 0, 1, b'A', 0, b'b', 0]),
+    ];
+    for other in same {
+        assert!(equal_in(&narrow, &other));
+    }
+    let others: [&[u8]; 3] = [&[2, 0, 0, b'a', b'b'], &[1, 0, 0, b'A'], &[0, 0, 0]];
+    for other in others {
+        assert!(!equal_in(&narrow, &shown(marked(0, 0, 0), other)));
+    }
+    // An empty result is no text of no units.
+    let none = shown(marked(0, 0, 0), &[0, 0, 0]);
+    let empty = [formula(0, 0, marked(3, 0, 0), &[], &[])];
+    assert!(!equal_in(&none, &empty));
 }
 
 #[test]

@@ -459,7 +459,12 @@ fn a23_which_number_a_field_has() {
 #[test]
 fn a24_formula_results() {
     let result = |field| {
-        let sheet = sheet_with(0, FORMULA, &formula_body(field, &[], &[]));
+        let sheet = one_sheet(WORKSHEET, 0, |book| {
+            book.record(FORMULA, &formula_body(field, &[], &[]));
+            if field[0] == 0 {
+                book.record(STRING, &[1, 0, 0, b'a']);
+            }
+        });
         check(&sheet.bytes).map(|_| values(&sheet.bytes)[0])
     };
     let formula = |result| Ok(Value::Formula(result));
@@ -995,6 +1000,9 @@ fn a52_what_is_printed() {
     for (which, detail) in [(0, 0), (1, 1), (2, 0x2A), (3, 0)] {
         let field = [which, 0, detail, 0, 0, 0, 0xFF, 0xFF];
         book.record(FORMULA, &formula_body(field, &[3], &[]));
+        if which == 0 {
+            book.record(STRING, &[2, 0, 0, b'a', b'b']);
+        }
     }
     book.record(
         FORMULA,

@@ -191,8 +191,17 @@ fn number_6_formulas() {
         let field = [which, 0xBB, detail, 0xBB, 0xBB, 0xBB, 0xFF, 0xFF];
         formula(&formula_body(field, &[], &[]))
     };
+    let with_text = |detail| {
+        let field = [0, 0xBB, detail, 0xBB, 0xBB, 0xBB, 0xFF, 0xFF];
+        let sheet = one_sheet(WORKSHEET, 0, |book| {
+            book.record(FORMULA, &formula_body(field, &[], &[]));
+            book.record(STRING, &[0, 0, 0]);
+        });
+        check(&sheet.bytes).err()
+    };
     for detail in 0..=255 {
-        assert_eq!(result(0, detail), None);
+        // Nothing but its missing text is wrong with it.
+        assert_eq!(with_text(detail), None);
         assert_eq!(result(1, detail).is_some(), detail > 1);
         let known = [0x00, 0x07, 0x0F, 0x17, 0x1D, 0x24, 0x2A].contains(&detail);
         assert_eq!(result(2, detail).is_some(), !known);

@@ -165,6 +165,23 @@ impl<'a> Workbook<'a> {
         }
     }
 
+    /// Puts the units of the text that one of its listed cells has for its formula's result at the front of the buffer, without another check. It is refused as
+    /// absent where the cell has none.
+    pub fn text(&self, cell: &Cell, buffer: &mut [u16]) -> Result<usize, Refusal> {
+        // SAFETY: both slices are valid for their lengths, and the buffer is lent to this call alone.
+        let answer = unsafe {
+            raw::station_text_at(
+                self.stream.as_ptr(),
+                self.stream.len(),
+                cell.field(),
+                buffer.as_mut_ptr(),
+                buffer.len(),
+            )
+        };
+        settled(answer.number, answer.offset)?;
+        Ok(answer.units)
+    }
+
     /// The units of each shared string, in order.
     pub fn strings(&self) -> Strings<'a> {
         Strings {
@@ -206,7 +223,32 @@ pub fn fetch(stream: &[u8], index: u32, buffer: &mut [u16]) -> Result<usize, Ref
     Ok(answer.units)
 }
 
-/// No shared string has more units: its length is 16 bits.
+/// Puts the units of a formula's text at the front of the buffer and says how many they are: of the text that the first listed cell of an address has for its
+/// result. It is refused as absent where there is none.
+pub fn text(
+    stream: &[u8],
+    sheet: u32,
+    row: u32,
+    column: u32,
+    buffer: &mut [u16],
+) -> Result<usize, Refusal> {
+    // SAFETY: both slices are valid for their lengths, and the buffer is lent to this call alone.
+    let answer = unsafe {
+        raw::station_text(
+            stream.as_ptr(),
+            stream.len(),
+            sheet,
+            row,
+            column,
+            buffer.as_mut_ptr(),
+            buffer.len(),
+        )
+    };
+    settled(answer.number, answer.offset)?;
+    Ok(answer.units)
+}
+
+/// No shared string and no formula's text has more units: its length is 16 bits.
 pub const LONGEST_STRING: usize = 65_535;
 
 /// A place in the string table.
@@ -370,7 +412,7 @@ impl<'a> Iterator for Sheets<'a> {
 pub enum FormulaResult {
     /// A number, infinities and NaN patterns included.
     Number(u64),
-    /// A text, which stands elsewhere.
+    /// A text, which [`Workbook::text`] and [`text`] give.
     Text,
     /// 0 or 1.
     Truth(u8),

@@ -128,6 +128,22 @@ extern "C" {
         units: *mut u16,
         room: usize,
     ) -> Units;
+    pub fn station_text(
+        stream: *const u8,
+        length: usize,
+        sheet: u32,
+        row: u32,
+        column: u32,
+        units: *mut u16,
+        room: usize,
+    ) -> Units;
+    pub fn station_text_at(
+        stream: *const u8,
+        length: usize,
+        field: usize,
+        units: *mut u16,
+        room: usize,
+    ) -> Units;
     pub fn station_next_string(
         stream: *const u8,
         length: usize,

@@ -95,7 +95,7 @@ fn touched(stack: &mut [u8], question: Question, desk: &mut Desk) -> usize {
 }
 
 /// Each C function. They come in an order in which one has the places that it needs from those before it.
-const QUESTIONS: [(&str, Question); 14] = [
+const QUESTIONS: [(&str, Question); 16] = [
     ("station_version", |_| {
         // SAFETY: it takes nothing.
         black_box(unsafe { raw::station_version() });
@@ -144,6 +144,20 @@ const QUESTIONS: [(&str, Question); 14] = [
         let (bytes, length) = (stream.as_ptr(), stream.len());
         let (at, part, level) = (desk.sheet.at, desk.sheet.part, desk.sheet.level);
         black_box(unsafe { raw::station_next_cells(bytes, length, at, part, level, lent, room) });
+    }),
+    ("station_text", |desk| {
+        let Desk { stream, units, .. } = desk;
+        let (buffer, room) = (units.as_mut_ptr(), units.len());
+        let (bytes, length) = (stream.as_ptr(), stream.len());
+        black_box(unsafe { raw::station_text(bytes, length, 0, 0, 0, buffer, room) });
+    }),
+    ("station_text_at", |desk| {
+        let Desk { stream, units, .. } = desk;
+        let (buffer, room) = (units.as_mut_ptr(), units.len());
+        let (bytes, length) = (stream.as_ptr(), stream.len());
+        // The first cell that was listed.
+        let field = desk.words[2] as usize;
+        black_box(unsafe { raw::station_text_at(bytes, length, field, buffer, room) });
     }),
     ("station_correct", |desk| {
         let Desk { stream, .. } = desk;

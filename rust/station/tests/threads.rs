@@ -1,15 +1,16 @@
 //! Many threads ask at the same time, about one stream and about copies of it: each gets what it would get alone.
 
-use station::{cells, check, correct, fetch, judge, pairs, Cell, NewValue, Pair, Refusal};
+use station::{cells, check, correct, fetch, judge, pairs, text, Cell, NewValue, Pair, Refusal};
 use std::sync::Barrier;
 use std::thread;
 
 const STREAM: &[u8] = include_bytes!("../../../cases/cells.in");
+const RESULTS: &[u8] = include_bytes!("../../../cases/results.in");
 const RIDE: &[u8] = include_bytes!("../../../cases/ride.in");
 const THREADS: usize = 8;
 const TURNS: usize = 200;
 
-/// All questions: counts, sheets with their cells, strings, judgements, a corrected copy, and the pairs of a session.
+/// All questions: counts, sheets with their cells, strings, judgements, a corrected copy, the text of a formula, and the pairs of a session.
 fn answers(stream: &[u8]) -> impl PartialEq + std::fmt::Debug {
     let workbook = check(stream).expect("a stream that passes");
     let sheets: Vec<(Vec<u16>, u32)> = workbook
@@ -20,12 +21,14 @@ fn answers(stream: &[u8]) -> impl PartialEq + std::fmt::Debug {
     let strings: Vec<Vec<u16>> = workbook.strings().collect();
     let mut units = [0; 16];
     let fetched = fetch(stream, 1, &mut units);
+    let mut label = [0; 8];
+    let text = (text(RESULTS, 0, 3, 1, &mut label), label);
     let judged = [&[0x1E, 0x01, 0x00][..], &[0x1E, 0x01]].map(|tokens| judge(tokens, &[]));
     let mut copy = stream.to_vec();
     let corrected = correct(&mut copy, 0, 0, 1, NewValue::Number(2.5));
     let ridden: Result<Vec<Pair>, Refusal> = pairs(RIDE).map(Iterator::collect);
     (
-        sheets, listed, strings, fetched, units, judged, corrected, copy, ridden,
+        sheets, listed, strings, fetched, units, text, judged, corrected, copy, ridden,
     )
 }
 

@@ -1,7 +1,7 @@
 //! Prints how often each refusal occurs over so many seeds (200,000 if none is
 //! given): `cargo run --release --example refusals -- 200000`.
 //!
-//! Each seed asks six questions: check, list, fetch and correct of one stream,
+//! Each seed asks seven questions: check, list, fetch, text and correct of one stream,
 //! judge of one formula, and the cadence of one session.
 
 use second_reader::{self as reader, Refusal};
@@ -25,6 +25,7 @@ struct Tally {
     check: Counts,
     list: Counts,
     fetch: Counts,
+    text: Counts,
     correct: Counts,
     judge: Counts,
     cadence: Counts,
@@ -42,6 +43,15 @@ impl Tally {
         let fetch = streams::fetch(seed, stream);
         let answer = reader::fetch(stream, fetch.index, &mut buffer[..fetch.units]);
         self.fetch.add(&answer);
+        let ask = streams::text(seed, stream);
+        let answer = reader::text(
+            stream,
+            ask.sheet,
+            ask.row,
+            ask.column,
+            &mut buffer[..ask.units],
+        );
+        self.text.add(&answer);
         let ask = streams::correction(seed, stream);
         let value = match ask.value {
             NewValue::Number(number) => reader::NewValue::Number(number),
@@ -58,12 +68,13 @@ impl Tally {
             "{seeds} seeds, {} bytes, longest {}",
             self.bytes, self.longest
         );
-        println!("answer     check      list     fetch   correct     judge   cadence");
+        println!("answer     check      list     fetch      text   correct     judge   cadence");
         for number in 0..NUMBERS {
             let row = [
                 self.check,
                 self.list,
                 self.fetch,
+                self.text,
                 self.correct,
                 self.judge,
                 self.cadence,

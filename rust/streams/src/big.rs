@@ -18,6 +18,8 @@ pub enum Big {
     Texts,
     /// FORMULA cells with short formulas.
     Formulas,
+    /// FORMULA cells with texts of 1 to 40 characters for their results.
+    TextResults,
     /// Records of no bytes that are passed over.
     Tiny,
     /// Shared strings of no characters.
@@ -28,13 +30,14 @@ pub enum Big {
 
 impl Big {
     /// All of them.
-    pub const ALL: [Big; 9] = [
+    pub const ALL: [Big; 10] = [
         Big::Mixed,
         Big::Numbers,
         Big::Rks,
         Big::MulRks,
         Big::Texts,
         Big::Formulas,
+        Big::TextResults,
         Big::Tiny,
         Big::EmptyStrings,
         Big::Reversed,
@@ -224,25 +227,47 @@ impl Address {
 fn append_cells(rng: &mut Rng, stream: &mut Vec<u8>, big: Big, unique: u32, limit: usize) {
     let mut address = Address { next: 0 };
     let mut body = Vec::with_capacity(2_000);
+    let mut after = Vec::new();
     loop {
         body.clear();
+        after.clear();
         let kind = match big {
             Big::Mixed => rng.pick(&kind::CELLS),
             Big::Numbers => kind::NUMBER,
             Big::Rks => kind::RK,
             Big::MulRks => kind::MULRK,
             Big::Texts => kind::LABELSST,
-            Big::Formulas => kind::FORMULA,
+            Big::Formulas | Big::TextResults => kind::FORMULA,
             Big::EmptyStrings => return,
             Big::Tiny | Big::Reversed => 0x0031,
         };
         cell_body(rng, &mut body, &mut address, kind, unique);
-        if stream.len() + HEADER_SIZE + body.len() > limit {
+        if big == Big::TextResults {
+            body[6..14].copy_from_slice(&[0, 0, 0, 0, 0, 0, 0xFF, 0xFF]);
+            append_text(rng, &mut after);
+        }
+        if stream.len() + HEADER_SIZE + body.len() + after.len() > limit {
             return;
         }
         append_header(stream, kind, body.len());
         stream.extend(&body);
+        stream.extend(&after);
     }
+}
+
+/// A formula's text in one STRING, narrow or wide; now and then a record stands
+/// before it.
+fn append_text(rng: &mut Rng, after: &mut Vec<u8>) {
+    if rng.percent(3) {
+        append_header(after, kind::SHRFMLA, 13);
+        rng.append(after, 13);
+    }
+    let length = rng.between(1, 40);
+    let wide = rng.percent(25);
+    let size = length * (1 + usize::from(wide));
+    append_header(after, kind::STRING, 3 + size);
+    after.extend([length as u8, 0, u8::from(wide)]);
+    rng.append(after, size);
 }
 
 fn cell_body(rng: &mut Rng, body: &mut Vec<u8>, address: &mut Address, kind: u16, unique: u32) {

@@ -1,10 +1,10 @@
 //! The eight cell records, valid ones.
 
-use crate::contents::{CellContents, Content};
+use crate::contents::{CellContents, Content, FormulaContents};
 use crate::formula::{self, Formula};
-use crate::record::{kind, Record, ERROR_CODES};
+use crate::record::{kind, word_at, Record, ERROR_CODES};
 use crate::rng::Rng;
-use crate::trailing;
+use crate::{text_results, trailing};
 
 /// How much a formula record has after its tokens at most.
 const LONGEST_TRAILING: usize = 600;
@@ -27,6 +27,8 @@ pub(crate) struct CellMaker {
     layout: Layout,
     unique: u32,
     next: usize,
+    /// An address to be used once more.
+    again: Option<(u16, u16)>,
     /// What was made, if it is to be kept.
     pub cells: Option<Vec<CellContents>>,
 }
@@ -38,13 +40,21 @@ impl CellMaker {
             layout: rng.pick(&[Crowded, Scattered, Ordered, Ordered, AtEdges]),
             unique,
             next: rng.below(300),
+            again: None,
             cells: keep.then(Vec::new),
         }
     }
 
-    /// A cell record of any kind. Text needs a string to point to.
-    pub fn record(&mut self, rng: &mut Rng) -> Record {
-        let kind = rng.pick(&kind::CELLS);
+    /// A cell record of any kind, with what belongs to it: a formula's text, of
+    /// no more than about so many bytes. A text cell needs a string to point to.
+    pub fn records(&mut self, rng: &mut Rng, budget: usize) -> Vec<Record> {
+        match rng.pick(&kind::CELLS) {
+            kind::FORMULA => self.formula(rng, budget),
+            kind => vec![self.record(rng, kind)],
+        }
+    }
+
+    fn record(&mut self, rng: &mut Rng, kind: u16) -> Record {
         match kind {
             kind::LABELSST if self.unique == 0 => self.number(rng),
             kind::LABELSST => self.text(rng),
@@ -53,8 +63,7 @@ impl CellMaker {
             kind::RK => self.packed(rng),
             kind::BOOLERR => self.truth_or_error(rng),
             kind::MULRK => self.multiple_packed(rng),
-            kind::MULBLANK => self.multiple_blank(rng),
-            _ => self.formula(rng),
+            _ => self.multiple_blank(rng),
         }
     }
 
@@ -96,7 +105,8 @@ impl CellMaker {
 
     /// The start that all but the multiple records have.
     fn start(&mut self, rng: &mut Rng) -> ((u16, u16), u16, Vec<u8>) {
-        let address = self.address(rng, 1);
+        let again = self.again.take();
+        let address = again.unwrap_or_else(|| self.address(rng, 1));
         let format = rng.word();
         let mut body = Vec::with_capacity(24);
         body.extend(address.0.to_le_bytes());
@@ -183,9 +193,37 @@ impl CellMaker {
         Record::new(kind::MULBLANK, body)
     }
 
-    fn formula(&mut self, rng: &mut Rng) -> Record {
-        let (address, format, mut body) = self.start(rng);
+    fn formula(&mut self, rng: &mut Rng, budget: usize) -> Vec<Record> {
         let result = formula_result(rng);
+        let mut records = self.formula_with(rng, result, budget);
+        let may_repeat = !matches!(self.layout, Layout::Ordered);
+        if may_repeat && records[0].has_text_result() && rng.percent(6) {
+            self.again = word_at(&records[0].body, 0).zip(word_at(&records[0].body, 2));
+            let result = text_results::result(rng);
+            records.extend(self.formula_with(rng, result, budget));
+        }
+        records
+    }
+
+    fn formula_with(&mut self, rng: &mut Rng, result: [u8; 8], budget: usize) -> Vec<Record> {
+        let is_text = matches!(result, [0, .., 0xFF, 0xFF]);
+        let mut after = Vec::new();
+        if rng.percent(if is_text { 40 } else { 8 }) {
+            after.push(text_results::between(rng));
+        }
+        let text = is_text.then(|| text_results::append(rng, &mut after, budget));
+        let formula = self.formula_record(rng, result, text);
+        [vec![formula], after].concat()
+    }
+
+    /// A formula that waits for its text, which doesn't come.
+    pub fn text_formula(&mut self, rng: &mut Rng) -> Record {
+        let result = text_results::result(rng);
+        self.formula_record(rng, result, None)
+    }
+
+    fn formula_record(&mut self, rng: &mut Rng, result: [u8; 8], text: Option<Vec<u16>>) -> Record {
+        let (address, format, mut body) = self.start(rng);
         let Formula {
             tokens,
             mut trailing,
@@ -199,7 +237,12 @@ impl CellMaker {
         body.extend(&tokens);
         body.extend(&trailing);
         self.keep(address, format, || {
-            Content::Formula(result, tokens, trailing)
+            Content::Formula(FormulaContents {
+                result,
+                text,
+                tokens,
+                trailing,
+            })
         });
         Record::new(kind::FORMULA, body)
     }
@@ -261,7 +304,10 @@ const SPECIAL_WORDS: [u32; 10] = [
 /// The eight bytes of a stored result, with random ones where none is judged.
 fn formula_result(rng: &mut Rng) -> [u8; 8] {
     let mut result = rng.next().to_le_bytes();
-    let which = rng.below(8) as u8;
+    let which = rng.pick(&[0, 0, 1, 2, 3, 4, 4, 4, 4]);
+    if which == 0 {
+        return text_results::result(rng);
+    }
     if which > 3 {
         let bits = number_bits(rng);
         let is_marked = bits >> 48 == 0xFFFF;

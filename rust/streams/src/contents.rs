@@ -35,6 +35,19 @@ pub struct CellContents {
     pub value: Content,
 }
 
+/// The contents of a formula.
+#[derive(Clone, Debug, PartialEq, Eq)]
+pub struct FormulaContents {
+    /// The eight bytes of its stored result.
+    pub result: [u8; 8],
+    /// The units of its text, where that is its result.
+    pub text: Option<Vec<u16>>,
+    /// Its tokens.
+    pub tokens: Vec<u8>,
+    /// The bytes after them.
+    pub trailing: Vec<u8>,
+}
+
 /// What a cell holds.
 #[derive(Clone, Debug, PartialEq, Eq)]
 pub enum Content {
@@ -50,6 +63,6 @@ pub enum Content {
     Truth(u8),
     /// An error code.
     Error(u8),
-    /// The eight bytes of a stored result, the tokens, and the bytes after them.
-    Formula([u8; 8], Vec<u8>, Vec<u8>),
+    /// A formula.
+    Formula(FormulaContents),
 }

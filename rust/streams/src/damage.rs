@@ -4,6 +4,7 @@
 use crate::cells::CellMaker;
 use crate::record::{append_header, bof, headers, kind, word_at, Book, Record, Tie, HEADER_SIZE};
 use crate::rng::Rng;
+use crate::text_results;
 
 /// A stream from a damaged workbook.
 pub(crate) fn damaged(rng: &mut Rng, mut book: Book) -> Vec<u8> {
@@ -33,7 +34,7 @@ fn damage_records(rng: &mut Rng, book: &mut Book) {
         // Too little is left to damage further.
         return;
     }
-    match rng.below(34) {
+    match rng.below(44) {
         0 => drop_record(rng, book),
         1 => duplicate_record(rng, book),
         2 => move_record(rng, book),
@@ -47,11 +48,16 @@ fn damage_records(rng: &mut Rng, book: &mut Book) {
         20..=21 => nest_charts(rng, book),
         22..=29 => damage_table(rng, book),
         30..=31 => change_index(rng, book),
+        32..=41 => text_results::damage(rng, book),
         _ => spoil_sheet_list(rng, book),
     }
 }
 
-fn place_of(rng: &mut Rng, book: &Book, wanted: impl Fn(&Record) -> bool) -> Option<usize> {
+pub(crate) fn place_of(
+    rng: &mut Rng,
+    book: &Book,
+    wanted: impl Fn(&Record) -> bool,
+) -> Option<usize> {
     let places: Vec<usize> = (0..book.records.len())
         .filter(|&place| wanted(&book.records[place]))
         .collect();
@@ -120,7 +126,7 @@ pub(crate) fn any_record(rng: &mut Rng) -> Record {
         }
         2..=4 => {
             let unique = rng.pick(&[0, 1, 3]);
-            CellMaker::new(rng, unique, false).record(rng)
+            CellMaker::new(rng, unique, false).records(rng, 0).remove(0)
         }
         5 => crate::workbook::dimensions(rng),
         _ => {
@@ -193,6 +199,7 @@ fn fields(rng: &mut Rng, record: &Record) -> Vec<(usize, usize)> {
         kind::MULBLANK => vec![(2, 2), (size.saturating_sub(2), 2)],
         kind::FORMULA => vec![(2, 2), (6, 1), (8, 1), (12, 2), (20, 2)],
         kind::SST => vec![(4, 4), (8, 2), (10, 1)],
+        kind::STRING => vec![(0, 2), (2, 1)],
         _ => vec![(0, 1), (0, 2), (2, 2)],
     }
 }
@@ -245,7 +252,7 @@ fn set_to_limit(rng: &mut Rng, field: &mut [u8]) {
 }
 
 /// One more or one less, carried through the field.
-fn step_by_one(rng: &mut Rng, field: &mut [u8]) {
+pub(crate) fn step_by_one(rng: &mut Rng, field: &mut [u8]) {
     let mut wide = [0; 8];
     wide[..field.len()].copy_from_slice(field);
     let value = u64::from_le_bytes(wide);
@@ -385,14 +392,14 @@ fn damage_table(rng: &mut Rng, book: &mut Book) {
 }
 
 /// One segment made two at any place, most of which may not be cut.
-fn split_segment(rng: &mut Rng, records: &mut Vec<Record>, place: usize) {
+pub(crate) fn split_segment(rng: &mut Rng, records: &mut Vec<Record>, place: usize) {
     let body = &mut records[place].body;
     let at = rng.below(body.len() + 1);
     let rest = body.split_off(at);
     records.insert(place + 1, Record::new(kind::CONTINUE, rest));
 }
 
-fn join_segments(records: &mut Vec<Record>, place: usize, end: usize) {
+pub(crate) fn join_segments(records: &mut Vec<Record>, place: usize, end: usize) {
     if place + 1 < end {
         let next = records.remove(place + 1);
         records[place].body.extend(next.body);

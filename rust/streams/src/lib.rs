@@ -18,13 +18,14 @@ mod record;
 mod rng;
 mod sessions;
 mod table;
+mod text_results;
 mod trailing;
 mod workbook;
 
 pub use big::Big;
-pub use contents::{CellContents, Content, Contents, SheetContents};
+pub use contents::{CellContents, Content, Contents, FormulaContents, SheetContents};
 pub use formula::Formula;
-pub use questions::{Correction, Fetch, NewValue};
+pub use questions::{Correction, Fetch, NewValue, Text};
 
 use record::{bof, Book, Record, Tie};
 use rng::Rng;
@@ -102,6 +103,12 @@ pub fn correction(seed: u64, stream: &[u8]) -> Correction {
 /// A fetch to ask of a stream.
 pub fn fetch(seed: u64, stream: &[u8]) -> Fetch {
     questions::fetch(&mut Rng::for_purpose(seed, 7), stream)
+}
+
+/// A cell to ask the text of, with a good chance of hitting a formula that has
+/// one for its result.
+pub fn text(seed: u64, stream: &[u8]) -> Text {
+    questions::text(&mut Rng::for_purpose(seed, 13), stream)
 }
 
 /// A sheet number to ask a stream's cells of.

@@ -1,7 +1,7 @@
 //! Questions to ask of a stream.
 
 use crate::cells::{number_bits, rk_word};
-use crate::record::{kind, long_at, word_at, ERROR_CODES, HEADER_SIZE};
+use crate::record::{is_text_result, kind, long_at, word_at, ERROR_CODES, HEADER_SIZE};
 use crate::rng::Rng;
 
 /// A correction to ask for.
@@ -39,12 +39,33 @@ pub struct Fetch {
     pub units: usize,
 }
 
+/// A cell's text to ask for.
+#[derive(Clone, Copy, Debug, PartialEq, Eq)]
+pub struct Text {
+    /// The sheet's number.
+    pub sheet: u32,
+    /// The cell's row.
+    pub row: u32,
+    /// The cell's column.
+    pub column: u32,
+    /// How many units the buffer has.
+    pub units: usize,
+}
+
 /// A cell as it is found by a look at the stream, without any judging.
 #[derive(Clone, Copy)]
 struct Found {
     kind: u16,
     row: u16,
     column: u16,
+    /// Whether it is a formula whose result is a text.
+    has_text: bool,
+}
+
+impl Found {
+    fn at(&self) -> (u16, u16) {
+        (self.row, self.column)
+    }
 }
 
 pub(crate) fn correction(rng: &mut Rng, stream: &[u8]) -> Correction {
@@ -120,12 +141,58 @@ pub(crate) fn fetch(rng: &mut Rng, stream: &[u8]) -> Fetch {
     } else {
         rng.below((unique as usize).min(5_000)) as u32
     };
-    let units = match rng.below(10) {
+    Fetch {
+        index,
+        units: units(rng),
+    }
+}
+
+/// How many units a buffer has: enough for any string, none, or a few.
+fn units(rng: &mut Rng) -> usize {
+    match rng.below(10) {
         0..=3 => 70_000,
         4 => 0,
         _ => rng.mostly_small(0, 60),
+    }
+}
+
+/// Mostly a formula whose result is a text, at times any cell or none.
+pub(crate) fn text(rng: &mut Rng, stream: &[u8]) -> Text {
+    let (sheet, cells) = sheet_with_cells(rng, stream);
+    let (mut row, mut column) = (
+        rng.pick(&[0, 1, 65_535, 65_536, u32::MAX]),
+        rng.pick(&[0, 1, 255, 256, u32::MAX]),
+    );
+    let aimed = rng.percent(80);
+    let texts: Vec<Found> = cells
+        .iter()
+        .filter(|cell| aimed && cell.has_text)
+        .copied()
+        .collect();
+    // Addresses where a text is listed first and another later.
+    let twice: Vec<Found> = texts
+        .iter()
+        .filter(|text| {
+            let mut there = cells.iter().filter(|cell| cell.at() == text.at());
+            there.next().is_some_and(|first| first.has_text) && there.any(|later| later.has_text)
+        })
+        .copied()
+        .collect();
+    let cells = match (texts.is_empty(), twice.is_empty()) {
+        (true, _) => &cells,
+        (_, false) if rng.percent(90) => &twice,
+        _ => &texts,
     };
-    Fetch { index, units }
+    if !cells.is_empty() && rng.percent(95) {
+        let cell = rng.pick(cells);
+        (row, column) = beside(rng, u32::from(cell.row), u32::from(cell.column));
+    }
+    Text {
+        sheet,
+        row,
+        column,
+        units: units(rng),
+    }
 }
 
 /// A row that a session has, mostly with one after it, or one that it hasn't.
@@ -209,7 +276,13 @@ fn append_cells(cells: &mut Vec<Found>, kind: u16, body: &[u8]) {
     };
     // A few columns of a multiple record are enough to ask for.
     let last = last.min(column.saturating_add(255));
-    cells.extend((column..=last).map(|column| Found { kind, row, column }));
+    let has_text = kind == kind::FORMULA && is_text_result(body);
+    cells.extend((column..=last).map(|column| Found {
+        kind,
+        row,
+        column,
+        has_text,
+    }));
 }
 
 /// A value of the kind that a cell takes, in range or not.

@@ -17,19 +17,26 @@ pub(crate) mod kind {
     pub const BLANK: u16 = 0x0201;
     pub const NUMBER: u16 = 0x0203;
     pub const BOOLERR: u16 = 0x0205;
+    pub const STRING: u16 = 0x0207;
+    pub const ARRAY: u16 = 0x0221;
+    pub const TABLE: u16 = 0x0236;
     pub const RK: u16 = 0x027E;
+    pub const SHRFMLA: u16 = 0x04BC;
     pub const BOF: u16 = 0x0809;
 
     /// All of them.
-    pub const ALL: [u16; 15] = [
+    pub const ALL: [u16; 19] = [
         FORMULA, EOF, FILEPASS, CONTINUE, BOUNDSHEET, MULRK, MULBLANK, SST, LABELSST, DIMENSIONS,
-        BLANK, NUMBER, BOOLERR, RK, BOF,
+        BLANK, NUMBER, BOOLERR, STRING, ARRAY, TABLE, RK, SHRFMLA, BOF,
     ];
 
     /// Those that hold cells.
     pub const CELLS: [u16; 8] = [
         FORMULA, MULRK, MULBLANK, LABELSST, BLANK, NUMBER, BOOLERR, RK,
     ];
+
+    /// Those that may stand between a formula and its text.
+    pub const BETWEEN: [u16; 3] = [SHRFMLA, ARRAY, TABLE];
 }
 
 /// The kinds of substream, as a BOF names them.
@@ -86,6 +93,11 @@ impl Record {
     pub fn eof() -> Self {
         Record::new(kind::EOF, Vec::new())
     }
+
+    /// Whether it is a formula whose stored result is a text.
+    pub fn has_text_result(&self) -> bool {
+        self.kind == kind::FORMULA && is_text_result(&self.body)
+    }
 }
 
 /// A workbook before it is written out.
@@ -140,6 +152,11 @@ impl Book {
         stream.extend(&self.tail);
         stream
     }
+}
+
+/// Whether a FORMULA's body has a text for its stored result.
+pub(crate) fn is_text_result(body: &[u8]) -> bool {
+    matches!(body.get(6..14), Some([0, .., 0xFF, 0xFF]))
 }
 
 /// Appends a header; a size that has no room in it is cut down.

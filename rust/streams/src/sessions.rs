@@ -261,11 +261,13 @@ fn joins(last: Option<&Record>, cell: &Cell) -> bool {
 /// A record of another kind with this row and column.
 fn other(rng: &mut Rng, start: &[u8]) -> Record {
     loop {
-        let mut record = CellMaker::new(rng, 0, false).record(rng);
+        let mut records = CellMaker::new(rng, 0, false).records(rng, 0);
         let single = [kind::BLANK, kind::BOOLERR, kind::FORMULA];
-        if single.contains(&record.kind) {
-            record.body[..4].copy_from_slice(start);
-            return record;
+        if let [record] = &mut records[..] {
+            if single.contains(&record.kind) {
+                record.body[..4].copy_from_slice(start);
+                return records.remove(0);
+            }
         }
     }
 }

@@ -3,6 +3,9 @@
 use crate::record::LONGEST_BODY;
 use crate::rng::Rng;
 
+/// More bytes than one record holds.
+const FULL: usize = 9_000;
+
 /// How strings are laid over segments, and how long they get.
 #[derive(Clone, Copy, Debug)]
 pub(crate) struct Style {
@@ -52,6 +55,34 @@ impl Table {
         let unique = table.unique.to_le_bytes();
         table.segments[0][4..8].copy_from_slice(&unique);
         table
+    }
+
+    /// The segments of one formula's text, of no more than about so many bytes,
+    /// and its units.
+    pub fn of_result(rng: &mut Rng, budget: usize) -> (Vec<Vec<u8>>, Vec<u16>) {
+        let mut table = Table {
+            segments: Vec::new(),
+            unique: 0,
+            strings: Some(Vec::new()),
+            style: Style::pick(rng, budget),
+        };
+        let wide = rng.percent(40);
+        let length = if budget > FULL && rng.percent(15) {
+            // About as much as one record holds.
+            table.style.break_percent = 0;
+            rng.between(LONGEST_BODY - 10, FULL) / width(wide)
+        } else {
+            table.pick_length(rng, budget / 3)
+        };
+        // Bits 2 and 3 bring nothing here.
+        let ignored = if rng.percent(40) { rng.byte() & !1 } else { 0 };
+        let [low, high] = (length as u16).to_le_bytes();
+        table
+            .segments
+            .push(vec![low, high, ignored | u8::from(wide)]);
+        table.append_characters(rng, length, wide);
+        let units = table.strings.and_then(|mut strings| strings.pop());
+        (table.segments, units.unwrap_or_default())
     }
 
     fn segment(&mut self) -> &mut Vec<u8> {

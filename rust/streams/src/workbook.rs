@@ -22,7 +22,7 @@ impl Context {
         let read = match kind {
             kind::BOF | kind::EOF | kind::CONTINUE => true,
             kind::BOUNDSHEET | kind::SST | kind::FILEPASS => self == Context::Globals,
-            kind::DIMENSIONS => self == Context::Worksheet,
+            kind::DIMENSIONS | kind::STRING => self == Context::Worksheet,
             _ => self == Context::Worksheet && kind::CELLS.contains(&kind),
         };
         !read
@@ -32,7 +32,7 @@ impl Context {
 /// Types that are passed over everywhere, real ones and some that are close to
 /// a type that is read.
 const PASSED_OVER: [u16; 32] = [
-    0x0031, 0x00E0, 0x041E, 0x003D, 0x0042, 0x00FF, 0x0208, 0x020B, 0x00D7, 0x023E, 0x0204, 0x0207,
+    0x0031, 0x00E0, 0x041E, 0x003D, 0x0042, 0x00FF, 0x0208, 0x020B, 0x00D7, 0x023E, 0x0204, 0x0206,
     0x04BC, 0x0221, 0x00EC, 0x005D, 0x0018, 0x0017, 0x01AE, 0x1001, 0x0000, 0xFFFF, 0x0001, 0x0003,
     0x0009, 0x0209, 0x0409, 0x003B, 0x00FB, 0x0084, 0x0A00, 0x0908,
 ];
@@ -257,7 +257,9 @@ impl Maker {
         while size < budget {
             let from = self.book.records.len();
             if rng.percent(cells_percent) {
-                self.book.push(maker.record(rng));
+                for record in maker.records(rng, budget - size) {
+                    self.book.push(record);
+                }
             } else {
                 self.beside_cells(rng, budget - size);
             }
@@ -304,6 +306,9 @@ impl Maker {
         for _ in 0..rng.mostly_small(0, 5) {
             if depths > 0 && rng.percent(45) {
                 self.chart(rng, budget / 2, depths - 1);
+            } else if rng.percent(10) {
+                let formula = CellMaker::new(rng, 0, false).text_formula(rng);
+                self.book.push(formula);
             } else {
                 self.others(rng, Context::Unlisted, budget);
             }
@@ -314,6 +319,7 @@ impl Maker {
 /// A type that is passed over here.
 fn other_kind(rng: &mut Rng, context: Context) -> u16 {
     let kind = match rng.below(4) {
+        0 if rng.percent(25) => kind::STRING,
         0 => rng.pick(&kind::ALL),
         1 => rng.word(),
         _ => rng.pick(&PASSED_OVER),

@@ -13,7 +13,7 @@ fn value_of(content: &Content) -> Value {
         Content::Text(index) => Value::Text(index),
         Content::Truth(truth) => Value::Truth(truth),
         Content::Error(code) => Value::Error(code),
-        Content::Formula(field, ..) => Value::Formula(match field {
+        Content::Formula(ref formula) => Value::Formula(match formula.result {
             [0, .., 0xFF, 0xFF] => FormulaResult::Text,
             [1, _, truth, .., 0xFF, 0xFF] => FormulaResult::Truth(truth),
             [2, _, code, .., 0xFF, 0xFF] => FormulaResult::Error(code),
@@ -48,12 +48,17 @@ fn assert_same(stream: &[u8], reading: &Reading, contents: &Contents) {
             assert_eq!(format_at_place(stream, cell), made.format);
             assert_eq!(cell.value, value_of(&made.value));
             let (tokens, trailing) = match &made.value {
-                Content::Formula(_, tokens, trailing) => (&tokens[..], &trailing[..]),
+                Content::Formula(formula) => (&formula.tokens[..], &formula.trailing[..]),
                 _ => (&[][..], &[][..]),
             };
             assert_eq!(&stream[cell.tokens.clone()], tokens);
             assert_eq!(&stream[cell.trailing.clone()], trailing);
         }
+        let made_texts = made.cells.iter().filter_map(|cell| match &cell.value {
+            Content::Formula(formula) => formula.text.clone(),
+            _ => None,
+        });
+        assert_eq!(sheet.texts, made_texts.collect::<Vec<_>>());
     }
 }
 
@@ -107,6 +112,7 @@ fn the_ways_of_reading_agree() {
                 assert_eq!(reading.unwrap_err(), refusal);
                 assert_eq!(reader::list_cells(&stream, 0, |_| ()), Err(refusal));
                 assert_eq!(reader::fetch(&stream, 0, &mut []), Err(refusal));
+                assert_eq!(reader::text(&stream, 0, 0, 0, &mut []), Err(refusal));
                 continue;
             }
         };
@@ -114,6 +120,7 @@ fn the_ways_of_reading_agree() {
             let mut cells = Vec::new();
             reader::list_cells(&stream, number, |cell| cells.push(cell.clone())).unwrap();
             assert_eq!(cells, sheet.cells);
+            assert_texts(&stream, number as u32, sheet);
         }
         for (index, string) in reading.strings.iter().enumerate().take(40) {
             let mut buffer = vec![0xABCD; string.len() + 2];
@@ -126,6 +133,31 @@ fn the_ways_of_reading_agree() {
                 assert_eq!((refusal.number, refusal.offset), (12, 0));
                 assert!(buffer.iter().all(|&unit| unit == 0xABCD));
             }
+        }
+    }
+}
+
+/// Each text is fetched by its cell, where that is the first of its address, and
+/// into no buffer that is shorter.
+fn assert_texts(stream: &[u8], number: u32, sheet: &reader::Sheet) {
+    let texts = sheet.cells.iter().filter(|cell| cell.has_text_result());
+    assert_eq!(texts.clone().count(), sheet.texts.len());
+    for (cell, text) in texts.zip(&sheet.texts).take(40) {
+        let at = |other: &&reader::Cell| (other.row, other.column) == (cell.row, cell.column);
+        let first = sheet.cells.iter().find(at);
+        if first != Some(cell) {
+            continue;
+        }
+        let (row, column) = (cell.row.into(), cell.column.into());
+        let mut buffer = vec![0xABCD; text.len() + 2];
+        let length = reader::text(stream, number, row, column, &mut buffer).unwrap();
+        assert_eq!(&buffer[..length], &text[..]);
+        assert_eq!(&buffer[length..], [0xABCD; 2]);
+        if let Some(short) = length.checked_sub(1) {
+            let mut buffer = vec![0xABCD; short];
+            let refusal = reader::text(stream, number, row, column, &mut buffer).unwrap_err();
+            assert_eq!((refusal.number, refusal.offset), (12, 0));
+            assert!(buffer.iter().all(|&unit| unit == 0xABCD));
         }
     }
 }
@@ -221,6 +253,8 @@ fn the_same_seed_gives_the_same() {
         assert_eq!(streams::session(seed), streams::session(seed));
         let fetch = streams::fetch(seed, &stream);
         assert_eq!(fetch, streams::fetch(seed, &stream));
+        let text = streams::text(seed, &stream);
+        assert_eq!(text, streams::text(seed, &stream));
         differing += u32::from(stream != streams::stream(seed + 1));
     }
     assert!(differing > 490);

@@ -185,10 +185,6 @@ impl Arguments {
         &self.operands[place]
     }
 
-    pub fn number(&self, place: usize) -> Result<u32, Failure> {
-        whole(self.command.operands.names()[place], self.operand(place))
-    }
-
     /// The value of an option, empty for one that stands alone; none where it wasn't given.
     pub fn option(&self, name: &str) -> Option<&OsStr> {
         self.options

@@ -114,12 +114,11 @@ Cell by cell, each cell has a kind, and a formula is told apart by it:
   blank            no value
   number           the shortest decimal that reads back to the same 64 bits;
                    an infinity or a NaN is its bits, bits:7FF8000000000000
-  text             the shared string
+  text             the shared string, or a formula's own text
   truth            true or false
   error            #NULL! #DIV/0! #VALUE! #REF! #NAME? #NUM! #N/A
-  formula number, formula truth, formula error
+  formula number, formula text, formula truth, formula error
                    a formula, and its stored result as above
-  formula text     a formula, and no value: the text is not in its record
   formula empty    a formula, and an empty text
 No value is an empty field in CSV and null in JSON. Cells come in stream order,
 all that the stream has, also several at one address.
@@ -271,9 +270,6 @@ fn run(arguments: &Arguments, out: &mut Output) -> Result<Status, Failure> {
             put(&stream, path, Place::of(path), mark, write)?;
         }
         Target::Folder(name) => folder::write(&book, &stream, mark, name)?,
-    }
-    if let Form::Grid = form {
-        book.tell_unread(&stream);
     }
     book.tell_system(&stream);
     Ok(Status::Answered)

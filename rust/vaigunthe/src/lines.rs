@@ -1,11 +1,13 @@
 //! list, sheets, strings and fetch: what a stream holds, a line each.
 
-use crate::arguments::{Arguments, Operands, Setting};
+use crate::address::Address;
+use crate::arguments::{missing, too_many, whole, Arguments, Operands, Setting};
 use crate::commands::Command;
 use crate::input::Stream;
 use crate::outcome::{Failure, Output, Status};
 use crate::text::InLine;
-use station::{SheetKind, Workbook, LONGEST_STRING};
+use crate::wanted::Wanted;
+use station::{Refusal, SheetKind, Workbook, LONGEST_STRING};
 use std::io::{self, Write};
 
 /// What most commands take.
@@ -79,16 +81,38 @@ written: vaigunthe --help.
 
 pub const FETCH: Command = Command {
     name: "fetch",
-    about: "give the 16-bit units of one shared string",
-    usage: &["FILE INDEX [--room N]"],
-    operands: Operands::Each(&["FILE", "INDEX"]),
+    about: "give the 16-bit units of one shared string, or of a formula's text",
+    usage: &[
+        "FILE INDEX [--room N]",
+        "FILE --cell SHEET CELL [--room N]",
+    ],
+    operands: Operands::AtLeast(&["FILE"]),
     words: &[],
-    options: &[Setting::with("--room", "N", "how many units there is room for, 65,535 where this isn't given; a longer string is refused with 12")],
-    examples: &[("vaigunthe fetch session.bin 1", "the second string of the table")],
+    options: &[
+        Setting::alone(
+            "--cell",
+            "the text that a cell's formula has for its result: SHEET is a number from 0 or a name, CELL an address like B12, or a row and a column counted from 0",
+        ),
+        Setting::with(
+            "--room",
+            "N",
+            "how many units there is room for, 65,535 where this isn't given; a longer string is refused with 12",
+        ),
+    ],
+    examples: &[
+        ("vaigunthe fetch session.bin 1", "the second string of the table"),
+        (
+            "vaigunthe fetch results.bin --cell 0 B4",
+            "the text that the formula in B4 of the first sheet came to",
+        ),
+    ],
     details: "\
-Gives the string at this index of the table:
+Gives the string at this index of the table, or the text of a formula's result:
   units N XXXX XXXX ...          its N units, four hex digits each
   refused N at O
+Of several cells at one address the first listed is meant. A cell that is no
+formula with a text for its result is refused with 11; the text of a text cell
+is a shared string.
 ",
     run: fetch,
 };
@@ -180,19 +204,77 @@ fn write_strings(workbook: &Workbook<'_>, out: &mut Output) -> io::Result<()> {
     Ok(())
 }
 
+/// What is to be fetched.
+enum Fetched {
+    /// The shared string of this index.
+    Shared(u32),
+    /// The text of this cell's formula.
+    OfCell(Wanted, Address),
+}
+
+impl Fetched {
+    fn of(arguments: &Arguments) -> Result<Self, Failure> {
+        let words = &arguments.operands()[1..];
+        let (fetched, rest) = match words {
+            _ if !arguments.has("--cell") => {
+                let (index, rest) = words.split_first().ok_or(missing("INDEX"))?;
+                (Fetched::Shared(whole("INDEX", index)?), rest)
+            }
+            [] => return Err(missing("SHEET")),
+            [sheet, words @ ..] => {
+                let sheet = Wanted::read("SHEET", sheet)?;
+                let (cell, rest) = Address::take(words)?;
+                (Fetched::OfCell(sheet, cell), rest)
+            }
+        };
+        match rest {
+            [] => Ok(fetched),
+            [extra, ..] => Err(too_many(extra)),
+        }
+    }
+
+    fn fetch(&self, stream: &[u8], buffer: &mut [u16]) -> Result<usize, Refusal> {
+        match self {
+            Fetched::Shared(index) => station::fetch(stream, *index, buffer),
+            Fetched::OfCell(sheet, Address { row, column }) => {
+                let sheet = match sheet {
+                    Wanted::Number(number) => *number,
+                    Wanted::Name(_) => sheet.number(&station::check(stream)?),
+                };
+                station::text(stream, sheet, *row, *column, buffer)
+            }
+        }
+    }
+
+    /// What a refusal can't say: that it is the sheet that is absent.
+    fn explain(&self, stream: &Stream<'_>) {
+        let Fetched::OfCell(sheet, _) = self else {
+            return;
+        };
+        let workbook = station::check(&stream.bytes).ok();
+        if let Some(note) = workbook.and_then(|workbook| sheet.note(&workbook)) {
+            stream.note(note);
+        }
+    }
+}
+
 fn fetch(arguments: &Arguments, out: &mut Output) -> Result<Status, Failure> {
-    let index = arguments.number(1)?;
+    let fetched = Fetched::of(arguments)?;
     let room = arguments.number_option("--room")?;
     let stream = Stream::read(arguments.operand(0))?;
     // More room than the longest string takes changes no answer.
     let room = room.map_or(LONGEST_STRING, |room| LONGEST_STRING.min(room as usize));
     let mut buffer = vec![0; room];
-    match station::fetch(&stream.bytes, index, &mut buffer) {
+    match fetched.fetch(&stream.bytes, &mut buffer) {
         Ok(count) => {
             write_units(&buffer[..count], out)?;
             Ok(Status::Answered)
         }
-        Err(refusal) => stream.refuse(refusal, out),
+        Err(refusal) => {
+            let status = stream.refuse(refusal, out)?;
+            fetched.explain(&stream);
+            Ok(status)
+        }
     }
 }
 

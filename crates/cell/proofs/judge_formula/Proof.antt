@@ -7,41 +7,21 @@ pub judge-formula-spec : {M : Type 1} → statement M
 judge-formula-spec =
     tie.close
     (tie.spec
-    -- wrong-requires
+    -- formula-sized-requires
     (λ c κs. search needs)
-    -- returns
-    (λ c. search judging-formula)
-    -- add-q
-    (λ c. search needs)
-    -- add-u16-at
-    (λ c. search needs)
-    -- u16-at-requires
-    (λ c κs. search needs)
-    -- u16-as-usize-requires
-    (λ c κs. search needs)
-    -- add-if2
-    (λ c. search needs)
-    -- wrong-requires-2
-    (λ c κs. search needs)
-    -- returns-2
-    (λ c. search judging-formula)
-    -- add-u16-at-2
-    (λ c. search needs)
-    -- u16-at-requires-2
-    (λ c κs. search needs)
-    -- wrong-requires-3
-    (λ c κs. search needs)
-    -- returns-3
-    (λ c. search judging-formula)
     -- add-u64-at
     (λ c. search needs)
     -- u64-at-requires
-    (λ c κs. search needs)
+    (λ c κs. search (judging-formula, needs))
     -- result-fits-requires
     (λ c κs. search needs)
-    -- returns-4
+    -- returns
     (λ c. search judging-formula)
-    -- wrong-requires-4
+    -- wrong-requires
     (λ c κs. search needs)
-    -- returns-5
+    -- returns-2
+    (λ c. search judging-formula)
+    -- wrong-requires-2
+    (λ c κs. search needs)
+    -- returns-3
     (λ c. search judging-formula))

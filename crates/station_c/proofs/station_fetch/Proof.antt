@@ -1,4 +1,3 @@
-use Rattle.walk.proofs.Choice.{refl′}
 use Rattle.station_c.proofs.Laws.{fetch-seen}
 use borrow.Author.Needs.{needs}
 use Rattle.station_c.proofs.station_fetch.Statement.{statement}
@@ -10,15 +9,9 @@ station-fetch-spec =
     (tie.spec
     -- fetch-requires
     (λ c κs. search needs)
-    -- enum-known-count
-    (λ c. search needs)
-    -- enum-known-number
-    (λ c. search needs)
+    -- units-of-requires
+    (λ c κs. search needs)
     -- same-length
     (λ c. search needs)
     -- returns
-    (λ c. (search (fetch-seen, refl′), search needs))
-    -- same-length-2
-    (λ c. search needs)
-    -- returns-2
-    (λ c. (search (fetch-seen, refl′), search needs)))
+    (λ c. (search (fetch-seen, needs), search needs)))

@@ -1,6 +1,6 @@
 use Rattle.substream.proofs.Laws.{answers}
 use Rattle.walk.proofs.Choice.{picks-told}
-use Rattle.record.proofs.Laws.{body-within}
+use Rattle.record.proofs.Laws.{body-within, end-within}
 use borrow.Author.Needs.{needs}
 use Rattle.substream.proofs.step_at.Statement.{statement}
 use Rattle.substream.proofs.step_at.Tie as tie
@@ -14,7 +14,7 @@ step-at-spec =
     -- enum-known-id
     (λ c. search needs)
     -- record-in-requires
-    (λ c κs. search (answers, picks-told, body-within, needs))
+    (λ c κs. (search (body-within, needs), search (end-within, needs)))
     -- enum-told
     (λ c. search needs)
     -- enum-told-2

@@ -16,7 +16,11 @@ pub const DIMENSIONS: u16 = 0x0200;
 pub const BLANK: u16 = 0x0201;
 pub const NUMBER: u16 = 0x0203;
 pub const BOOLERR: u16 = 0x0205;
+pub const STRING: u16 = 0x0207;
+pub const ARRAY: u16 = 0x0221;
+pub const TABLE: u16 = 0x0236;
 pub const RK: u16 = 0x027E;
+pub const SHRFMLA: u16 = 0x04BC;
 pub const BOF: u16 = 0x0809;
 pub const OTHER: u16 = 0x0031;
 
@@ -220,6 +224,14 @@ pub fn formula_body(result: [u8; 8], tokens: &[u8], after: &[u8]) -> Vec<u8> {
     body.extend(tokens);
     body.extend(after);
     body
+}
+
+/// The stored result of a formula that waits for its text.
+pub const TEXT_RESULT: [u8; 8] = [0, 9, 9, 9, 9, 9, 0xFF, 0xFF];
+
+/// The body of a formula with a text result at row 1, column 2.
+pub fn text_formula() -> Vec<u8> {
+    formula_body(TEXT_RESULT, &[0x1E, 7, 0], &[])
 }
 
 /// An RK body at row 1, column 2 with format 3.

@@ -4,6 +4,7 @@
 mod functions;
 mod jumps;
 mod sessions;
+mod text_results;
 mod tokens;
 mod trailing;
 

@@ -5,12 +5,16 @@ use crate::errors;
 use crate::input::Stream;
 use crate::wanted::Wanted;
 use dates::{Formats, System};
-use station::{Cell, FormulaResult, Refusal, Sheet, SheetKind, Value, Workbook};
+use station::{Cell, FormulaResult, Refusal, Sheet, SheetKind, Value, Workbook, LONGEST_STRING};
+use std::borrow::Cow;
+use std::cell::RefCell;
 
 pub struct Book<'a> {
     stream: &'a [u8],
     workbook: Workbook<'a>,
     strings: SharedStrings,
+    /// Room for the text of any formula.
+    text: RefCell<Vec<u16>>,
     /// The one sheet that is asked for, where not all are.
     only: Option<usize>,
     /// The number formats, where dates are asked for.
@@ -19,12 +23,12 @@ pub struct Book<'a> {
 
 /// What a cell shows.
 pub enum Shown<'a> {
-    /// A blank, or the text of a formula, which its record doesn't hold.
+    /// A blank.
     Nothing,
     Number(u64),
     /// A number by ISO 8601, and the number.
     Date(String, u64),
-    Text(&'a [u16]),
+    Text(Cow<'a, [u16]>),
     Truth(bool),
     Error(&'static str),
 }
@@ -44,6 +48,7 @@ impl<'a> Book<'a> {
             stream,
             workbook,
             strings: SharedStrings::of(&workbook),
+            text: RefCell::new(vec![0; LONGEST_STRING]),
             only,
             dates: None,
         })
@@ -93,25 +98,26 @@ impl<'a> Book<'a> {
         self.dates.is_some()
     }
 
-    /// The kind of a cell of this format and value, and what it shows.
-    pub fn shown(&self, format: u16, value: Value) -> (&'static str, Shown<'_>) {
-        match value {
+    /// The kind of a cell, and what it shows.
+    pub fn shown(&self, cell: &Cell) -> (&'static str, Shown<'_>) {
+        let format = cell.format();
+        match cell.value() {
             Value::Blank => ("blank", Shown::Nothing),
             Value::Number(bits) => ("number", self.number(format, bits)),
-            Value::Text(index) => ("text", Shown::Text(self.strings.get(index))),
+            Value::Text(index) => ("text", Shown::Text(self.strings.get(index).into())),
             Value::Truth(truth) => ("truth", Shown::Truth(truth != 0)),
             Value::Error(code) => ("error", Shown::Error(errors::name(code))),
             Value::Formula(FormulaResult::Number(bits)) => {
                 ("formula number", self.number(format, bits))
             }
-            Value::Formula(FormulaResult::Text) => ("formula text", Shown::Nothing),
+            Value::Formula(FormulaResult::Text) => ("formula text", self.text(cell)),
             Value::Formula(FormulaResult::Truth(truth)) => {
                 ("formula truth", Shown::Truth(truth != 0))
             }
             Value::Formula(FormulaResult::Error(code)) => {
                 ("formula error", Shown::Error(errors::name(code)))
             }
-            Value::Formula(FormulaResult::Empty) => ("formula empty", Shown::Text(&[])),
+            Value::Formula(FormulaResult::Empty) => ("formula empty", Shown::Text([][..].into())),
         }
     }
 
@@ -127,23 +133,19 @@ impl<'a> Book<'a> {
         }
     }
 
+    /// The text that a cell's formula has for its result.
+    fn text(&self, cell: &Cell) -> Shown<'_> {
+        let mut room = self.text.borrow_mut();
+        let count = self.workbook.text(cell, &mut room);
+        let count = count.expect("a stream that passes has the text of each text result");
+        Shown::Text(room[..count].to_vec().into())
+    }
+
     /// The token bytes of a formula cell.
     pub fn tokens(&self, cell: &Cell) -> Option<&'a [u8]> {
         match cell.value() {
             Value::Formula(_) => self.stream.get(cell.tokens()),
             _ => None,
-        }
-    }
-
-    /// Says how many fields of a grid are empty though Excel shows something there.
-    pub fn tell_unread(&self, stream: &Stream<'_>) {
-        let text = |cell: &Cell| cell.value() == Value::Formula(FormulaResult::Text);
-        let cells = self.sheets().flat_map(|(_, sheet)| sheet.cells());
-        let count = cells.filter(text).count();
-        if count > 0 {
-            stream.note(format_args!(
-                "formulas whose result is a text: {count}; these texts are not read, and their fields are empty"
-            ));
         }
     }
 

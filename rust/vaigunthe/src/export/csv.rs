@@ -25,7 +25,7 @@ pub fn write<W: Write>(book: &Book<'_>, listing: Listing, out: &mut W) -> io::Re
             if cell.is_blank() && !listing.blanks {
                 continue;
             }
-            let (kind, shown) = book.shown(cell.format(), cell.value());
+            let (kind, shown) = book.shown(&cell);
             match listing.letters {
                 true => write!(out, "{number},{name},{},{kind},", Address::of(&cell))?,
                 false => write!(
@@ -56,7 +56,7 @@ pub fn write_shown<W: Write>(shown: &Shown<'_>, out: &mut W) -> io::Result<()> {
         Shown::Nothing => Ok(()),
         Shown::Number(bits) => write!(out, "{}", Number(bits)),
         Shown::Date(ref date, _) => out.write_all(date.as_bytes()),
-        Shown::Text(units) => out.write_all(field(units).as_bytes()),
+        Shown::Text(ref units) => out.write_all(field(units).as_bytes()),
         Shown::Truth(truth) => write!(out, "{truth}"),
         Shown::Error(name) => out.write_all(name.as_bytes()),
     }

@@ -2,22 +2,13 @@
 
 use super::book::{Book, Shown};
 use super::csv::write_shown;
-use station::{Sheet, Value};
+use station::{Cell, Sheet};
 use std::io::{self, Write};
 
-/// A cell with its place. There are as many of these as there are cells, however far apart they lie.
-#[derive(Clone, Copy)]
-struct Placed {
-    row: u16,
-    column: u16,
-    format: u16,
-    value: Value,
-}
-
-/// The cells of a sheet by row and column, one for an address.
+/// The cells of a sheet by row and column, one for an address. There are as many as the sheet has, however far apart they lie.
 pub struct Grid<'b, 'a> {
     book: &'b Book<'a>,
-    cells: Vec<Placed>,
+    cells: Vec<Cell>,
     rows: usize,
     columns: usize,
 }
@@ -59,19 +50,12 @@ impl<'b, 'a> Grid<'b, 'a> {
         let mut cells = Vec::new();
         let mut values = Addresses::none();
         sheet.cells().for_each(|cell| {
-            let (row, column, value) = (cell.row(), cell.column(), cell.value());
-            let format = cell.format();
-            let covers = values.put(row, column, value != Value::Blank);
-            if covers || value != Value::Blank {
-                cells.push(Placed {
-                    row,
-                    column,
-                    format,
-                    value,
-                });
+            let covers = values.put(cell.row(), cell.column(), !cell.is_blank());
+            if covers || !cell.is_blank() {
+                cells.push(cell);
             }
         });
-        let place = |cell: &Placed| (cell.row, cell.column);
+        let place = |cell: &Cell| (cell.row(), cell.column());
         // Listed later is still later among those of one address.
         cells.sort_by_key(place);
         cells.dedup_by(|later, kept| {
@@ -81,9 +65,12 @@ impl<'b, 'a> Grid<'b, 'a> {
             }
             same
         });
-        cells.retain(|cell| cell.value != Value::Blank);
-        let rows = cells.last().map_or(0, |cell| usize::from(cell.row) + 1);
-        let columns = cells.iter().map(|cell| usize::from(cell.column) + 1).max();
+        cells.retain(|cell| !cell.is_blank());
+        let rows = cells.last().map_or(0, |cell| usize::from(cell.row()) + 1);
+        let columns = cells
+            .iter()
+            .map(|cell| usize::from(cell.column()) + 1)
+            .max();
         Grid {
             book,
             cells,
@@ -95,7 +82,7 @@ impl<'b, 'a> Grid<'b, 'a> {
     pub fn write<W: Write>(&self, out: &mut W) -> io::Result<()> {
         let mut rest = &self.cells[..];
         for row in 0..self.rows {
-            let here = |cell: &Placed| usize::from(cell.row) == row;
+            let here = |cell: &Cell| usize::from(cell.row()) == row;
             let count = rest.iter().take_while(|cell| here(cell)).count();
             let (cells, after) = rest.split_at(count);
             self.write_row(cells, out)?;
@@ -104,13 +91,13 @@ impl<'b, 'a> Grid<'b, 'a> {
         Ok(())
     }
 
-    fn write_row<W: Write>(&self, cells: &[Placed], out: &mut W) -> io::Result<()> {
+    fn write_row<W: Write>(&self, cells: &[Cell], out: &mut W) -> io::Result<()> {
         let mut column = 0;
         for cell in cells {
-            let next = usize::from(cell.column);
+            let next = usize::from(cell.column());
             out.write_all(&COMMAS[..next - column])?;
             column = next;
-            let (_, shown) = self.book.shown(cell.format, cell.value);
+            let (_, shown) = self.book.shown(cell);
             self.write_field(&shown, out)?;
         }
         if cells.is_empty() {
@@ -123,7 +110,8 @@ impl<'b, 'a> Grid<'b, 'a> {
     /// In a single column an empty field is a pair of quotes: many readers pass over an empty line.
     fn write_field<W: Write>(&self, shown: &Shown<'_>, out: &mut W) -> io::Result<()> {
         match shown {
-            Shown::Nothing | Shown::Text([]) if self.columns == 1 => out.write_all(b"\"\""),
+            Shown::Nothing if self.columns == 1 => out.write_all(b"\"\""),
+            Shown::Text(text) if text.is_empty() && self.columns == 1 => out.write_all(b"\"\""),
             shown => write_shown(shown, out),
         }
     }

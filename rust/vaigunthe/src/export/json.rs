@@ -51,7 +51,7 @@ fn write_cell<W: Write>(
     cell: &Cell,
     out: &mut W,
 ) -> io::Result<()> {
-    let (kind, shown) = book.shown(cell.format(), cell.value());
+    let (kind, shown) = book.shown(cell);
     match listing.letters {
         true => write!(out, "{{\"cell\":\"{}\"", Address::of(cell))?,
         false => {
@@ -84,7 +84,7 @@ fn write_value<W: Write>(shown: &Shown<'_>, out: &mut W) -> io::Result<()> {
         Shown::Number(bits) if Number(bits).is_decimal() => write!(out, "{}", Number(bits)),
         Shown::Number(bits) => write!(out, "\"{}\"", Number(bits)),
         Shown::Date(ref date, _) => write!(out, "\"{date}\""),
-        Shown::Text(units) => write!(out, "{}", InJson(units)),
+        Shown::Text(ref units) => write!(out, "{}", InJson(units)),
         Shown::Truth(truth) => write!(out, "{truth}"),
         Shown::Error(name) => write!(out, "\"{name}\""),
     }

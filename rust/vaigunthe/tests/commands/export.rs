@@ -32,7 +32,19 @@ fn error_name(code: u8) -> &'static str {
     NAMES.iter().find(|name| name.0 == code).expect("a name").1
 }
 
-pub fn shown(reading: &Reading, value: Value) -> (String, Shown) {
+/// The cell at this place of a sheet's list. Its text, where its formula has one, stands with the sheet's others.
+pub fn shown_at(reading: &Reading, sheet: &second_reader::Sheet, place: usize) -> (String, Shown) {
+    let cell = &sheet.cells[place];
+    if !cell.has_text_result() {
+        return shown(reading, cell.value);
+    }
+    let before = sheet.cells[..place].iter();
+    let text = before.filter(|cell| cell.has_text_result()).count();
+    let text = Shown::Text(sheet.texts[text].clone());
+    ("formula text".to_string(), text)
+}
+
+fn shown(reading: &Reading, value: Value) -> (String, Shown) {
     let (kind, shown) = match value {
         Value::Blank => ("blank", Shown::Nothing),
         Value::Number(bits) => ("number", Shown::Number(bits)),
@@ -42,14 +54,13 @@ pub fn shown(reading: &Reading, value: Value) -> (String, Shown) {
         }
         Value::Truth(truth) => ("truth", Shown::Truth(truth == 1)),
         Value::Error(code) => ("error", Shown::Error(error_name(code))),
-        Value::Formula(FormulaResult::Text) => ("formula text", Shown::Nothing),
         Value::Formula(FormulaResult::Empty) => ("formula empty", Shown::Text(vec![])),
         Value::Formula(result) => {
             let (kind, result) = match result {
                 FormulaResult::Number(bits) => shown(reading, Value::Number(bits)),
                 FormulaResult::Truth(truth) => shown(reading, Value::Truth(truth)),
                 FormulaResult::Error(code) => shown(reading, Value::Error(code)),
-                FormulaResult::Text | FormulaResult::Empty => unreachable!("answered above"),
+                FormulaResult::Text | FormulaResult::Empty => unreachable!("answered before"),
             };
             return (format!("formula {kind}"), result);
         }
@@ -114,9 +125,9 @@ fn assert_csv(text: &str, stream: &[u8], reading: &Reading, sheets: &[usize]) {
     for &number in sheets {
         let sheet = &reading.sheets[number];
         let name = name_units(stream, sheet);
-        for cell in &sheet.cells {
+        for (place, cell) in sheet.cells.iter().enumerate() {
             let line = lines.next().expect("a line for each cell");
-            let (kind, shown) = shown(reading, cell.value);
+            let (kind, shown) = shown_at(reading, sheet, place);
             let address = [number, usize::from(cell.row), usize::from(cell.column)];
             let [number, row, column] = address.map(|number| number.to_string());
             let plain = [&line[0], &line[2], &line[3], &line[4]];
@@ -144,18 +155,19 @@ fn assert_json_book(text: &str, stream: &[u8], reading: &Reading, sheets: &[usiz
         assert_eq!(written.get("rows").number(), f64::from(sheet.rows));
         let cells = written.get("cells").list();
         assert_eq!(cells.len(), sheet.cells.len());
-        for (written, cell) in cells.iter().zip(&sheet.cells) {
-            assert_json_cell(written, stream, reading, cell);
+        for (place, (written, cell)) in cells.iter().zip(&sheet.cells).enumerate() {
+            let (kind, shown) = shown_at(reading, sheet, place);
+            assert_eq!(written.get("kind").text(), kind);
+            assert_json(written.get("value"), &shown);
+            assert_json_cell(written, stream, cell);
         }
     }
 }
 
-fn assert_json_cell(written: &Json, stream: &[u8], reading: &Reading, cell: &Cell) {
-    let (kind, shown) = shown(reading, cell.value);
+/// What a cell has beside its kind and value.
+fn assert_json_cell(written: &Json, stream: &[u8], cell: &Cell) {
     assert_eq!(written.get("row").number(), f64::from(cell.row));
     assert_eq!(written.get("column").number(), f64::from(cell.column));
-    assert_eq!(written.get("kind").text(), kind);
-    assert_json(written.get("value"), &shown);
     if let Value::Formula(_) = cell.value {
         let tokens = &stream[cell.tokens.clone()];
         let hex: String = tokens.iter().map(|byte| format!("{byte:02X}")).collect();

@@ -9,11 +9,12 @@ use second_reader::Refusal;
 fn expected(stream: &[u8], index: u32, room: usize) -> Result<String, Refusal> {
     let mut buffer = vec![0; room];
     let count = second_reader::fetch(stream, index, &mut buffer)?;
-    let units: String = buffer[..count]
-        .iter()
-        .map(|unit| format!(" {unit:04X}"))
-        .collect();
-    Ok(format!("units {count}{units}\n"))
+    Ok(line(&buffer[..count]))
+}
+
+fn line(units: &[u16]) -> String {
+    let hex: String = units.iter().map(|unit| format!(" {unit:04X}")).collect();
+    format!("units {}{hex}\n", units.len())
 }
 
 #[test]
@@ -79,6 +80,72 @@ fn made_streams() {
             Err(refusal) => ran.refuses(&refusal.to_string()),
         }
     }
+}
+
+/// The text of a formula's result, by its cell.
+#[test]
+fn units_of_a_formula() {
+    let file = case("results.in");
+    let units = "units 5 006C 0061 0062 0065 006C\n";
+    run(words!["fetch", file, "--cell", "0", "B4"]).says(0, units);
+    run(words!["fetch", "--cell", file, "Sheet1", "3", "1"]).says(0, units);
+    run(words!["fetch", file, "0", "b4", "--cell", "--room", "5"]).says(0, units);
+    run(words!["fetch", file, "--cell", "0", "B4", "--room=4"]).refuses("refused 12 at 0");
+    // Another result, no cell, no sheet.
+    for (sheet, cell) in [
+        ("0", "A4"),
+        ("0", "G4"),
+        ("0", "A1"),
+        ("0", "XFD1"),
+        ("1", "B4"),
+    ] {
+        run(words!["fetch", file, "--cell", sheet, cell]).refuses("refused 11 at 0");
+    }
+    let ran = run(words!["fetch", file, "--cell", "Shet1", "B4"]);
+    assert!(ran.err.contains("did you mean 'Sheet1'?"), "{}", ran.err);
+    ran.refuses("refused 11 at 0");
+    run(words!["fetch", case("cells.in"), "--cell", "0", "A2"]).refuses("refused 11 at 0");
+    let refused = case("refused-7-orphan.in");
+    run(words!["fetch", refused, "--cell", "0", "B4"]).refuses("refused 7 at 20");
+}
+
+#[test]
+fn made_texts() {
+    let mut given = 0;
+    for seed in 0..200 {
+        let stream = streams::stream(seed);
+        let question = streams::text(seed, &stream);
+        let numbers = [question.sheet, question.row, question.column];
+        let [sheet, row, column] = numbers.map(|number| number.to_string());
+        let room = question.units.to_string();
+        let words = [
+            "fetch", "-", "--cell", &sheet, &row, &column, "--room", &room,
+        ];
+        let ran = run_with(&words, &stream);
+        let mut buffer = vec![0; question.units];
+        let [sheet, row, column] = numbers;
+        match second_reader::text(&stream, sheet, row, column, &mut buffer) {
+            Ok(count) => {
+                ran.says(0, &line(&buffer[..count]));
+                given += 1;
+            }
+            Err(refusal) => ran.refuses(&refusal.to_string()),
+        }
+    }
+    assert!(given > 5, "only {given} texts");
+}
+
+#[test]
+fn what_is_no_cell() {
+    let file = case("results.in");
+    run(words!["fetch", file]).fails("INDEX");
+    run(words!["fetch", file, "0", "1"]).fails("one too many");
+    run(words!["fetch", file, "--cell"]).fails("SHEET");
+    run(words!["fetch", file, "--cell", "0"]).fails("CELL");
+    run(words!["fetch", file, "--cell", "0", "3"]).fails("COLUMN");
+    run(words!["fetch", file, "--cell", "0", "B"]).fails("an address like B12");
+    run(words!["fetch", file, "--cell", "0", "B4", "5"]).fails("one too many");
+    run(words!["fetch", file, "--cell=0", "B4"]).fails("no value");
 }
 
 #[test]

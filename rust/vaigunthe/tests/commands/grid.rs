@@ -1,7 +1,7 @@
 //! export --grid: sheets as tables, and the files that they go to.
 
 use crate::correct::state;
-use crate::export::{assert_field, shown, Shown};
+use crate::export::{assert_field, shown_at, Shown};
 use crate::made::{self, units, Sheet};
 use crate::parse::csv;
 use crate::tool::{case, finish, run, run_with, Folder, TOOL};
@@ -12,16 +12,14 @@ use std::fs;
 use std::os::unix::fs::symlink;
 use std::process::Command;
 
-/// What a grid must have: the last listed of each address, without blanks.
-fn expected(reading: &Reading, number: usize) -> BTreeMap<(usize, usize), Value> {
+/// What a grid must have: the last listed of each address, without blanks; each by its place in the list.
+fn expected(reading: &Reading, number: usize) -> BTreeMap<(usize, usize), usize> {
+    let listed = &reading.sheets[number].cells;
     let mut cells = BTreeMap::new();
-    for cell in &reading.sheets[number].cells {
-        cells.insert(
-            (usize::from(cell.row), usize::from(cell.column)),
-            cell.value,
-        );
+    for (place, cell) in listed.iter().enumerate() {
+        cells.insert((usize::from(cell.row), usize::from(cell.column)), place);
     }
-    cells.retain(|_, value| *value != Value::Blank);
+    cells.retain(|_, &mut place| listed[place].value != Value::Blank);
     cells
 }
 
@@ -39,7 +37,10 @@ fn assert_grid(text: &str, reading: &Reading, number: usize) {
         assert_eq!(line.len(), width);
         for (column, field) in line.iter().enumerate() {
             match cells.get(&(row, column)) {
-                Some(value) => assert_field(field, &shown(reading, *value).1),
+                Some(&place) => {
+                    let (_, shown) = shown_at(reading, &reading.sheets[number], place);
+                    assert_field(field, &shown);
+                }
                 None => assert_field(field, &Shown::Nothing),
             }
         }
@@ -196,14 +197,12 @@ fn which_sheet() {
     run(words!["export", refused, "--grid"]).refuses_data("refused 5 at 20");
 }
 
-/// What isn't read is said; the data is the same.
 #[test]
 fn texts_of_formulas() {
     let ran = run(words!["export", case("results.in"), "--grid"]);
-    assert_eq!(ran.status, Some(0));
-    let line = "1,,false,true,#N/A,#NULL!,,1,1\r\n";
-    assert!(ran.text().ends_with(line), "{}", ran.text());
-    assert!(ran.err.contains("formulas whose result is a text: 1;"));
+    let line = "1,label,false,true,#N/A,#NULL!,,1,1\r\n";
+    let blank = ",,,,,,,,\r\n".repeat(3);
+    ran.says(0, &format!("{blank}{line}"));
 }
 
 /// Names that would lead elsewhere, or to one file, or to none.

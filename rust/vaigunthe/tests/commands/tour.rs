@@ -33,6 +33,7 @@ fn prints_what_the_readme_says() {
     for (name, sample) in [
         ("session.bin", "cells.in"),
         ("dated.bin", "dates.in"),
+        ("results.bin", "results.in"),
         ("ride.bin", "ride.in"),
     ] {
         folder.put(name, &fs::read(case(sample)).expect("the sample"));

@@ -101,6 +101,8 @@ fn examples_are_right() {
             folder.put("session.bin", &stream);
             let ride = fs::read(case("ride.in")).expect("an input");
             folder.put("ride.bin", &ride);
+            let results = fs::read(case("results.in")).expect("an input");
+            folder.put("results.bin", &results);
             fs::create_dir(folder.at("sessions")).expect("a folder");
             folder.put("sessions/one.bin", &stream);
             folder.put("sessions/bad.bin", &stream[1..]);

@@ -1,0 +1,2 @@
+pub mod CellText
+pub mod Parts

@@ -1,0 +1,129 @@
+// Fetch the text result of a cell into a lent buffer of 16-bit units.
+ghost use mathlib.Core.Path.{_≡_};
+ghost use Rattle.reading.specs.Cells.{placeAt, listedFrom};
+ghost use Rattle.scan.specs.Scan.{scanOf};
+ghost use Rattle.correction.specs.Correction.{cellsAt};
+ghost use Rattle.celltext.specs.CellText.{answerOf, bufferAfter};
+ghost use Rattle.celltext.specs.Parts.{First, Whole};
+use listing::Sought;
+use reading::Outside;
+use record::Header;
+use scan::Scanned;
+use strings::Fetched;
+use workbook::Checked;
+
+// Where a text result is fetched: after the formula whose record stands from `at` to `end`; or the refusal.
+pub enum Spot {
+    Text { at: usize, end: usize },
+    Refused { number: u8, offset: usize },
+}
+
+fn absent() -> Spot
+    ensures { λ r. ⌜ r ≡ Spot.Refused 11 0 ⌝ }
+{
+    Spot::Refused {
+        number: 11,
+        offset: 0,
+    }
+}
+
+// The record at a place of a sheet's listing: what `scan::scan` gives. That has one caller, the loop of a correction, into which it is compiled; with a second
+// one a correction would take half as long again.
+fn scan_record(s: &[u8], at: usize, level: u8) -> Scanned
+    ensures { λ r. ⌜ r ≡ scanOf (now (s .entry)) at level ⌝ }
+{
+    match record::header_at(s, at) {
+        Header::Record {
+            kind: id,
+            size,
+            end,
+        } => {
+            if level != 0 {
+                return Scanned::None(reading::past_record(id, level, end));
+            }
+            let count = cell::cell_count(s, at, id, size);
+            if count == 0 {
+                return Scanned::None(reading::past_record(id, level, end));
+            }
+            Scanned::Cells {
+                id,
+                row: le::u16_at(s, at + 4),
+                first: le::u16_at(s, at + 6),
+                count,
+                next: end,
+            }
+        }
+        Header::Cut => Scanned::None(Outside::End),
+        Header::End => Scanned::None(Outside::End),
+    }
+}
+
+// The first cell of an address, in the listing that starts at the record at `from`.
+fn find_first(s: &[u8], from: usize, row: u32, column: u32) -> Spot
+    ensures { λ r. ⌜ First (now (s .entry)) (cellsAt row column (listedFrom (now (s .entry)) (placeAt from 0))) r ⌝ }
+{
+    let mut at = from;
+    let mut level: u8 = 0;
+    loop {
+        match scan_record(s, at, level) {
+            Scanned::Cells {
+                id,
+                row: here,
+                first,
+                count,
+                next,
+            } => {
+                if correction::in_row(here, first, count, row, column) {
+                    if textresult::has_text(s, id, at) {
+                        return Spot::Text { at, end: next };
+                    }
+                    return absent();
+                }
+                at = next;
+            }
+            Scanned::None(o) => match o {
+                Outside::Next {
+                    at: next,
+                    level: inner,
+                } => {
+                    at = next;
+                    level = inner;
+                }
+                Outside::End => {
+                    return absent();
+                }
+            },
+        }
+    }
+}
+
+// The first cell of an address in a sheet.
+fn spot_of(s: &[u8], sheet: u32, row: u32, column: u32) -> Spot
+    ensures { λ r. ⌜ Whole (now (s .entry)) sheet row column r ⌝ }
+{
+    match workbook::check_with(s, 0) {
+        Checked::Wrong { number, offset } => Spot::Refused { number, offset },
+        Checked::Right(_) => match listing::find_sheet(s, sheet) {
+            Sought::Absent => absent(),
+            Sought::Sheet {
+                header: _,
+                position,
+                kind,
+            } => {
+                let start = listing::start_of(s, position, kind);
+                find_first(s, start.at, row, column)
+            }
+        },
+    }
+}
+
+// The units of the text result of a cell at the front of the buffer; the answer says how many.
+pub fn fetch_cell(s: &[u8], sheet: u32, row: u32, column: u32, buf: &mut [u16]) -> Fetched
+    ensures { λ r. ⌜ r ≡ answerOf (now (s .entry)) sheet row column (now (buf .entry)) ⌝ }
+    ensures { λ r. ⌜ now (buf .exit) ≡ bufferAfter (now (s .entry)) sheet row column (now (buf .entry)) ⌝ }
+{
+    match spot_of(s, sheet, row, column) {
+        Spot::Refused { number, offset } => Fetched::Refused { number, offset },
+        Spot::Text { at, end } => textresult::fetch_text(s, at, end, buf),
+    }
+}

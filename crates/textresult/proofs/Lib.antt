@@ -1,0 +1,4 @@
+pub mod Local
+pub mod Laws
+pub mod Fetch
+pub mod FromPlace

@@ -1,0 +1,17 @@
+use Rattle.walk.proofs.Choice.{picks}
+use Rattle.textresult.specs.TextResult.{between}
+use borrow.Author.Needs.{needs}
+use Rattle.textresult.proofs.between.Statement.{statement}
+use Rattle.textresult.proofs.between.Tie as tie
+
+pub between-spec : {M : Type 1} → statement M
+unfolding between
+between-spec =
+    tie.close
+    (tie.spec
+    -- returns
+    (λ c. search picks)
+    -- returns-2
+    (λ c. search picks)
+    -- returns-3
+    (λ c. search picks))

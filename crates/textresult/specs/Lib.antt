@@ -1,0 +1,3 @@
+pub mod TextResult
+pub mod FromPlace
+pub mod Parts
