@@ -51,7 +51,7 @@ enum station_refusal {
     STATION_BAD_INDEX = 9,        /* a text cell's index is not below the number of shared strings */
     STATION_BAD_SHEETS = 10,      /* the sheet list and the substreams disagree; at the BOUNDSHEET, or the BOF that none names */
     STATION_ABSENT = 11,          /* the sheet, string or cell asked for is absent, or has no text result; offset 0 */
-    STATION_NO_ROOM = 12,         /* the buffer has fewer units than the string; offset 0 */
+    STATION_NO_ROOM = 12,         /* the buffer has fewer units than the string, or the table under two numbers for each string; offset 0 */
     STATION_BAD_TOKEN = 13,       /* the formula has an unknown, cut or misplaced token, or a bad length; the offset is the token's */
     STATION_BAD_STACK = 14,       /* the formula's stack runs short, or does not end with one operand; at the token, or the formula's end */
     STATION_BAD_FUNCTION = 15,    /* the formula has no such function, or uses it wrongly; the offset is the token's */
@@ -88,6 +88,17 @@ struct station_units station_text(const uint8_t *stream, size_t length, uint32_t
 
 /* the same for a listed cell, without another check: field is the offset of its value field; 11 where no text result stands there */
 struct station_units station_text_at(const uint8_t *stream, size_t length, size_t field, uint16_t *units, size_t room);
+
+/* fill: the place of each shared string into a lent table of 32-bit numbers, two for each string: the offset of its head, then that of the
+ * header of the record it stands in; all further numbers become 4,294,967,295. After the check's refusals 12 where the table has under
+ * two numbers for each string. numbers is the table's length. */
+struct station_filled_table { uint8_t number; size_t offset; uint32_t strings; };
+struct station_filled_table station_fill(const uint8_t *stream, size_t length, uint32_t *table, size_t numbers);
+
+/* fetch through a table that was filled for the stream: as station_fetch, without another check. A granted correction leaves a table
+ * good. With another table or stream: what reads as a string at the entry's place, or 11. */
+struct station_units station_fetch_through(const uint8_t *stream, size_t length, const uint32_t *table, size_t numbers, uint32_t index,
+                                           uint16_t *units, size_t room);
 
 /* list: the sheets one after the other, from the place that station_check gives.
  * The name lies 12 bytes after header, size bytes long, width bytes a character; kind is 0 worksheet, 1 macro, 2 chart;

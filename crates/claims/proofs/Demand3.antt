@@ -52,23 +52,23 @@ use Rattle.reread.proofs.Reading.{reads-replaced, new-after}
 use Rattle.claims.specs.Demand3.{Corrects, Only, One, HoldsNew, OthersStay, passed, Passes, ReadsNew, OneAfter, Granted as OfGranted, spotOf, ofCells, SpotsStay, textOf, TextsStay, takes, Unfit, Refusal, checked, no-sheet, no-cell, many, kind, value, RefusedExactly, RefusedKeeps, PackedExactly}
 
 -- ---- a granted correction: what was written, and into which cell
-record Made (s : List ℕ) (n row column : ℕ) (v : NewValue) (t : List ℕ) : Type 0 where
-  kind : Field
-  place : ℕ
-  number : ℕ
-  is : correctionOf s n row column v ≡ writes kind place number
-  after : t ≡ streamAfter s (writes kind place number)
-  given : Granted s n row column v kind place number
+pub record Made (s : List ℕ) (n row column : ℕ) (v : NewValue) (t : List ℕ) : Type 0 where
+  pub kind : Field
+  pub place : ℕ
+  pub number : ℕ
+  pub is : correctionOf s n row column v ≡ writes kind place number
+  pub after : t ≡ streamAfter s (writes kind place number)
+  pub given : Granted s n row column v kind place number
 
 module _ {s : List ℕ} {n row column : ℕ} {v : NewValue} {t : List ℕ} where
-  made : Corrects s n row column v changed.Granted t → Made s n row column v t
+  pub made : Corrects s n row column v changed.Granted t → Made s n row column v t
   made h = by (correctionOf s n row column v) refl
     where
       by : (x : Correction) → correctionOf s n row column v ≡ x → Made s n row column v t
       by (refuses m o) i = let e : changed.Granted ≡ changed.Refused m o = h .answer ∙ ap answerOf i in never (cc)
       by (writes f p b) i = record { kind = f; place = p; number = b; is = i; after = h .after ∙ ap (streamAfter s) i; given = granted s n row column v f p b i }
 
-  one : (m : Made s n row column v t) {P : Cell → Type 0} → P (m .given .cell) → One s n row column P
+  pub one : (m : Made s n row column v t) {P : Cell → Type 0} → P (m .given .cell) → One s n row column P
   one m holds =
       let g = m .given in
       record { cell = g .cell; unique = g .globals .unique; only = record { globals = g .globals; passes = g .passes; count = refl; sheet = g .sheet; nth = g .nth; only = g .only }; holds = holds }

@@ -7,12 +7,13 @@ use native.Mathlib.Omega.{arith}
 use lib.ListN.{length}
 use Rattle.walk.specs.Walk.{more, stop}
 use Rattle.walk.proofs.Walk.{run-keeps}
-use Rattle.walk.proofs.Choice.{pick-any}
+use borrow.Author.Tests.{eqb-true}
+use Rattle.walk.proofs.Choice.{pick-any, pick-by}
 use Rattle.le.specs.Bytes.{u16At}
 use Rattle.record.specs.declared.Header.{Header}
 use Rattle.record.specs.declared.Header.the-variants.{Record, Cut, End}
 use Rattle.record.specs.Record.{headerAt}
-use Rattle.record.proofs.Laws.{Whole, whole}
+use Rattle.record.proofs.Laws.{whole}
 use Rattle.strings.specs.declared.Strings.{Strings}
 use Rattle.strings.specs.declared.Strings.the-variants as strings
 use Rattle.strings.specs.Table.{tableOf, placesOf, answerOf}
@@ -29,6 +30,7 @@ use Rattle.globals.proofs.Laws.{go, left, falls}
 pub record Stands (s : List ℕ) (p n : ℕ) : Type 0 where
   pub later : 0 < p
   pub within : p + 4 + u16At s (p + 2) ≤ length s
+  pub sst : headerAt s p ≡ Record 0x00FC (u16At s (p + 2)) (p + 4 + u16At s (p + 2))
   pub table : Accepted s p (p + 4 + u16At s (p + 2))
   pub count : length (placesOf s p (p + 4 + u16At s (p + 2))) ≡ n
 
@@ -43,28 +45,36 @@ module _ (s : List ℕ) (u : ℕ) where
   ToldBy (Stop n o) = Unit {0}
 
   module _ (v : Globals) (later : 0 < v .at) (told : TableTold s u v) where
-    told-table : (t z e : ℕ) → Whole s (v .at) t z e → (x : Strings) → x ≡ answerOf (tableOf s (v .at) e) → ToldBy (onTable v x)
+    told-table : (t z e : ℕ) → headerAt s (v .at) ≡ Record t z e → t ≡ 0x00FC → (x : Strings) → x ≡ answerOf (tableOf s (v .at) e) → ToldBy (onTable v x)
     unfolding pastTable
-    told-table t z e w (strings.Table n o) h =
+    told-table t z e q k (strings.Table n o) h =
+        let w = whole s (v .at) t z e q in
         let a = accepted s (v .at) e (strings.Table n o) h n o refl in
         let c = checked-count s (v .at) e (strings.Table n o) h n o refl in
         let i : e ≡ v .at + 4 + u16At s (v .at + 2) = omega arith in
-        inr (record { later = later; within = omega arith; table = subst (Accepted s (v .at)) i a; count = subst (λ (k : ℕ). length (placesOf s (v .at) k) ≡ n) i c })
-    told-table t z e w (strings.Refused n o) h = tt
+        let j : z ≡ u16At s (v .at + 2) = w .size in
+        inr (record {
+          later = later;
+          within = omega arith;
+          sst = q ∙ (λ l. Record (k l) (j l) (i l));
+          table = subst (Accepted s (v .at)) i a;
+          count = subst (λ (k : ℕ). length (placesOf s (v .at) k) ≡ n) i c;
+        })
+    told-table t z e q k (strings.Refused n o) h = tt
 
-    told-record : (t z e : ℕ) → Whole s (v .at) t z e → ToldBy (recordIn s v t z e)
+    told-record : (t z e : ℕ) → headerAt s (v .at) ≡ Record t z e → ToldBy (recordIn s v t z e)
     unfolding recordIn boundsheetRecord sstRecord bofRecord eofRecord continueRecord past
-    told-record t z e w =
+    told-record t z e q =
         pick-any ToldBy _ (pick-any ToldBy _ told tt)
-        (pick-any ToldBy _ (pick-any ToldBy _ (told-table t z e w (answerOf (tableOf s (v .at) e)) refl) tt)
+        (pick-by ToldBy _ (λ k. pick-any ToldBy _ (told-table t z e q (eqb-true t 0x00FC k) (answerOf (tableOf s (v .at) e)) refl) tt) (λ _.
         (pick-any ToldBy _ tt
         (pick-any ToldBy _ (pick-any ToldBy _ tt tt)
         (pick-any ToldBy _ (pick-any ToldBy _ told tt)
         (pick-any ToldBy _ (pick-any ToldBy _ tt told)
-        told)))))
+        told))))))
 
     told-header : (h : Header) → headerAt s (v .at) ≡ h → ToldBy (onHeader s v h)
-    told-header (Record t z e) h = told-record t z e (whole s (v .at) t z e h)
+    told-header (Record t z e) h = told-record t z e h
     told-header Cut h = tt
     told-header End h = tt
 

@@ -29,9 +29,11 @@ use Rattle.station_c.specs.declared.SharedString.{SharedString}
 use Rattle.station_c.specs.declared.Sheet.{Sheet}
 use Rattle.station_c.specs.declared.Cells.{Cells}
 use Rattle.station_c.specs.declared.Filled.{Filled}
+use Rattle.station_c.specs.declared.tables.FilledTable.{FilledTable}
+use Rattle.places.specs.declared.Filled as places
 use Rattle.batch.specs.declared.Filled as batch
 use Rattle.batch.specs.Batch.{Batch, filledSeen as batchSeen}
-use Rattle.station_c.specs.Answers.{checkSeen, judgeSeen, correctSeen, fetchSeen, textSeen, sheetSeen, cellsSeen, filledSeen}
+use Rattle.station_c.specs.Answers.{checkSeen, judgeSeen, correctSeen, fetchSeen, textSeen, sheetSeen, cellsSeen, filledSeen, tableSeen}
 
 -- r is what the call gave, a what its promise says, x how the code saw it
 seen : {A B : Type 0} (f : A → B) {a r x : A} {y : B} → r ≡ a → r ≡ x → y ≡ f x → y ≡ f a
@@ -80,3 +82,6 @@ sheets-ended s = seen (sheetSeen s)
 -- f is what the batch gave
 pub filled-seen : (x : Batch) {f : batch.Filled} → f ≡ batchSeen x → _≡_ {A = Filled} (record { cells = f .cells; ended = f .ended; at = f .place .at; part = f .place .part; level = f .place .level }) (filledSeen x)
 filled-seen x i = ap (λ (g : batch.Filled). record { cells = g .cells; ended = g .ended; at = g .place .at; part = g .place .part; level = g .place .level }) i
+
+pub table-seen : {a r x : places.Filled} {y : FilledTable} → r ≡ a → r ≡ x → y ≡ tableSeen x → y ≡ tableSeen a
+table-seen = seen tableSeen

@@ -34,6 +34,9 @@ use Rattle.station_c.specs.declared.SharedString.{SharedString}
 use Rattle.station_c.specs.declared.Sheet.{Sheet}
 use Rattle.station_c.specs.declared.Cells.{Cells}
 use Rattle.station_c.specs.declared.Filled.{Filled}
+use Rattle.station_c.specs.declared.tables.FilledTable.{FilledTable}
+use Rattle.places.specs.declared.Filled as places
+use Rattle.places.specs.declared.Filled.the-variants as filled
 use Rattle.batch.specs.Batch.{Batch}
 
 -- how many sheets and strings; the sheet list starts after the globals' BOF, the strings in the table
@@ -61,6 +64,10 @@ correctSeen (changed.Refused n o) = record { number = n; offset = o }
 abbrev pub fetchSeen : Fetched → Units
 fetchSeen (fetched.Units n) = record { number = 0; offset = 0; units = n }
 fetchSeen (fetched.Refused n o) = record { number = n; offset = o; units = 0 }
+
+abbrev pub tableSeen : places.Filled → FilledTable
+tableSeen (filled.Strings n) = record { number = 0; offset = 0; strings = n }
+tableSeen (filled.Refused n o) = record { number = n; offset = o; strings = 0 }
 
 -- the next string from a place on: the place stays where there is none, or no room for it
 abbrev pub textSeen : Cursor → NextString → SharedString

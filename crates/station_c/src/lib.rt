@@ -1,5 +1,6 @@
 // The five questions as C functions. Each is defined for every argument; a refusal's number is 0 where there is none, and what isn't answered is 0.
 mod sessions;
+mod tables;
 mod texts;
 
 ghost use mathlib.Core.Path.{_≡_};

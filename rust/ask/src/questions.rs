@@ -1,6 +1,6 @@
 //! The questions, and how each is answered.
 
-use crate::words::{bytes, number};
+use crate::words::{bytes, number, numbers};
 use station::{Cell, Pair, Refusal, LONGEST_STRING};
 use std::fmt::Write;
 
@@ -13,7 +13,7 @@ struct Question {
 }
 
 /// All of them.
-const QUESTIONS: [Question; 6] = [
+const QUESTIONS: [Question; 8] = [
     Question {
         name: "check",
         words: "S",
@@ -37,6 +37,18 @@ const QUESTIONS: [Question; 6] = [
         words: "S SHEET ROW COLUMN UNITS",
         asks: "the text of a formula's result, for a buffer of UNITS units",
         answer: text,
+    },
+    Question {
+        name: "fill",
+        words: "S NUMBERS",
+        asks: "the places of the shared strings, for a table of NUMBERS numbers (up to 16777216)",
+        answer: fill,
+    },
+    Question {
+        name: "fetch-through",
+        words: "S TABLE INDEX UNITS",
+        asks: "a string by its place in a table of numbers joined by commas, for a buffer of UNITS units",
+        answer: fetch_through,
     },
     Question {
         name: "profile",
@@ -71,7 +83,7 @@ pub fn help() -> String {
     for question in &QUESTIONS {
         let usage = format!("{} {}", question.name, question.words);
         // Writing to a string never fails.
-        let _ = writeln!(help, "  {usage:32}{}", question.asks);
+        let _ = writeln!(help, "  {usage:36}{}", question.asks);
     }
     help
 }
@@ -126,10 +138,20 @@ fn text(words: &[&[u8]]) -> Option<String> {
     };
     let stream = bytes(stream)?;
     let (sheet, row, column) = (number(sheet)?, number(row)?, number(column)?);
+    fetched(room, |buffer| {
+        station::text(&stream, sheet, row, column, buffer)
+    })
+}
+
+/// What a fetch gives for a buffer of so many units.
+fn fetched(
+    room: &[u8],
+    fetch: impl FnOnce(&mut [u16]) -> Result<usize, Refusal>,
+) -> Option<String> {
     // A larger buffer answers the same.
     let room = (number(room)? as usize).min(LONGEST_STRING);
     let mut buffer = vec![0; room];
-    let answer = station::text(&stream, sheet, row, column, &mut buffer);
+    let answer = fetch(&mut buffer);
     Some(answer.map_or_else(|refusal| refusal.line(), |count| units(&buffer[..count])))
 }
 
@@ -144,6 +166,46 @@ fn units(units: &[u16]) -> String {
         line.push('-');
     }
     line
+}
+
+/// No stream has strings for more numbers, and every number of a table is answered: a line has its limits.
+const LARGEST_TABLE: u32 = 16_777_216;
+
+fn fill(words: &[&[u8]]) -> Option<String> {
+    let [stream, size] = words else { return None };
+    let (stream, size) = (bytes(stream)?, number(size)?);
+    if size > LARGEST_TABLE {
+        return None;
+    }
+    let mut table = vec![0; size as usize];
+    Some(match station::fill(&stream, &mut table) {
+        Ok(_) => places(&table),
+        Err(refusal) => refusal.line(),
+    })
+}
+
+/// Every number of a table; `-` where it has none.
+fn places(table: &[u32]) -> String {
+    let mut line = String::from("filled ");
+    for (place, number) in table.iter().enumerate() {
+        let between = if place == 0 { "" } else { "," };
+        // Writing to a string never fails.
+        let _ = write!(line, "{between}{number}");
+    }
+    if table.is_empty() {
+        line.push('-');
+    }
+    line
+}
+
+fn fetch_through(words: &[&[u8]]) -> Option<String> {
+    let [stream, table, index, room] = words else {
+        return None;
+    };
+    let (stream, table, index) = (bytes(stream)?, numbers(table)?, number(index)?);
+    fetched(room, |buffer| {
+        station::fetch_through(&stream, &table, index, buffer)
+    })
 }
 
 fn profile(words: &[&[u8]]) -> Option<String> {

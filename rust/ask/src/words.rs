@@ -35,6 +35,14 @@ pub fn number(word: &[u8]) -> Option<u32> {
     std::str::from_utf8(word).ok()?.parse().ok()
 }
 
+/// Decimal numbers joined by commas; `-` is none.
+pub fn numbers(word: &[u8]) -> Option<Vec<u32>> {
+    if word == NONE {
+        return Some(Vec::new());
+    }
+    word.split(|&byte| byte == b',').map(number).collect()
+}
+
 #[cfg(test)]
 mod tests {
     use super::*;
@@ -49,12 +57,32 @@ mod tests {
     }
 
     #[test]
-    fn numbers() {
+    fn single_numbers() {
         assert_eq!(number(b"0"), Some(0));
         assert_eq!(number(b"0017"), Some(17));
         assert_eq!(number(b"4294967295"), Some(u32::MAX));
         for wrong in ["", "-", "-1", "+1", "1.0", "1 ", "0x1", "4294967296", "٣"] {
             assert_eq!(number(wrong.as_bytes()), None, "{wrong}");
+        }
+    }
+    #[test]
+    fn numbers_joined() {
+        assert_eq!(numbers(b"-"), Some(vec![]));
+        assert_eq!(numbers(b"7"), Some(vec![7]));
+        assert_eq!(numbers(b"0,017,4294967295"), Some(vec![0, 17, u32::MAX]));
+        for wrong in [
+            "",
+            ",",
+            "1,",
+            ",1",
+            "1,,2",
+            "1, 2",
+            "1,-",
+            "-,1",
+            "1;2",
+            "4294967296",
+        ] {
+            assert_eq!(numbers(wrong.as_bytes()), None, "{wrong}");
         }
     }
 }

@@ -293,6 +293,19 @@ fn lines_that_are_no_question() {
         "cells\t-\t0x1",
         "cells\t-\t4294967296",
         "cells\t-\t0\t0",
+        "fill\t-",
+        "fill\t-\t",
+        "fill\t-\t-",
+        "fill\t-\t16777217",
+        "fill\t-\t0\t0",
+        "fetch-through\t-\t-\t0",
+        "fetch-through\t-\t\t0\t0",
+        "fetch-through\t-\t0,\t0\t0",
+        "fetch-through\t-\t0 0\t0\t0",
+        "fetch-through\t-\t4294967296\t0\t0",
+        "fetch-through\t-\t-\t-\t0",
+        "fetch-through\t-\t-\t0\t-",
+        "fetch-through\t-\t-\t0\t0\t0",
         "profile",
         "profile\t",
         "profile\t-\t0",
@@ -441,6 +454,91 @@ fn units(units: &[u16]) -> String {
     }
 }
 
+/// Questions about a stored case, CELLS, and what document 02 answers to them. Its SST is at 20, its three strings, `one`, `zwei` and one of no characters, are at
+/// 32, 38 and 49, and its body ends at 52.
+const PLACES: [(&str, &str); 18] = [
+    ("fill\tCELLS\t6", "filled 32,20,38,20,49,20"),
+    (
+        "fill\tCELLS\t9",
+        "filled 32,20,38,20,49,20,4294967295,4294967295,4294967295",
+    ),
+    ("fill\tCELLS\t5", "refused 12 at 0"),
+    ("fill\t-\t0", "refused 3 at 0"),
+    (
+        "fetch-through\tCELLS\t32,20,38,20\t1\t4",
+        "units 4 007A007700650069",
+    ),
+    (
+        "fetch-through\tCELLS\t32,20,38,20\t0\t4294967295",
+        "units 3 006F006E0065",
+    ),
+    ("fetch-through\tCELLS\t49,20\t0\t0", "units 0 -"),
+    ("fetch-through\tCELLS\t32,20,38,20\t1\t3", "refused 12 at 0"),
+    // No such entry, half of one, and one that would be there in 31 bits.
+    ("fetch-through\tCELLS\t32,20,38,20\t2\t9", "refused 11 at 0"),
+    ("fetch-through\tCELLS\t32,20,38\t1\t9", "refused 11 at 0"),
+    ("fetch-through\tCELLS\t-\t0\t9", "refused 11 at 0"),
+    (
+        "fetch-through\tCELLS\t32,20\t2147483648\t9",
+        "refused 11 at 0",
+    ),
+    // The globals' BOF for a segment; a head at the body's end, in the header, in the counts.
+    ("fetch-through\tCELLS\t32,0\t0\t9", "refused 11 at 0"),
+    ("fetch-through\tCELLS\t52,20\t0\t9", "refused 11 at 0"),
+    ("fetch-through\tCELLS\t23,20\t0\t9", "refused 11 at 0"),
+    ("fetch-through\tCELLS\t24,20\t0\t9", "units 3 000000030000"),
+    // No check: an SST with one string in it and nothing else; and one whose body is cut.
+    ("fetch-through\tfc000300000000\t4,0\t0\t0", "units 0 -"),
+    ("fetch-through\tfc0003000000\t4,0\t0\t0", "refused 11 at 0"),
+];
+
+#[test]
+fn places_in_a_table() {
+    let case = Path::new(env!("CARGO_MANIFEST_DIR")).join("../../cases/cells.in");
+    let stream = hex(&fs::read(case).expect("a stored case"));
+    let questions = PLACES.map(|(question, _)| question.replace("CELLS", &stream));
+    assert_eq!(answers(&questions), PLACES.map(|(_, answer)| answer));
+}
+
+/// What filling and fetching through a table give, as the second reader has it.
+#[test]
+fn made_tables() {
+    let (mut questions, mut wanted) = (Vec::new(), Vec::new());
+    for seed in 0..300 {
+        let stream = streams::stream(seed);
+        let mut table = vec![0; streams::numbers(seed, &stream)];
+        let filled = second_reader::fill(&stream, &mut table);
+        questions.push(format!("fill\t{}\t{}", hex(&stream), table.len()));
+        wanted.push(filled.map_or_else(refused, |_| format!("filled {}", joined(&table))));
+        let filled = if filled.is_ok() { &table[..] } else { &[] };
+        let ask = streams::through(seed, &stream, filled);
+        let mut buffer = vec![0; ask.units];
+        let answer = second_reader::fetch_through(&ask.stream, &ask.table, ask.index, &mut buffer);
+        wanted.push(answer.map_or_else(refused, |count| units(&buffer[..count])));
+        questions.push(format!(
+            "fetch-through\t{}\t{}\t{}\t{}",
+            hex(&ask.stream),
+            joined(&ask.table),
+            ask.index,
+            ask.units
+        ));
+    }
+    assert_eq!(answers(&questions), wanted);
+    for start in ["filled ", "units ", "refused 11 ", "refused 12 "] {
+        let met = wanted.iter().filter(|line| line.starts_with(start));
+        assert!(met.count() > 10, "{start}");
+    }
+}
+
+/// Numbers as a word; `-` for none.
+fn joined(numbers: &[u32]) -> String {
+    let words: Vec<_> = numbers.iter().map(u32::to_string).collect();
+    match &words[..] {
+        [] => "-".to_string(),
+        words => words.join(","),
+    }
+}
+
 #[test]
 fn help_and_arguments() {
     let run = |argument| {
@@ -457,6 +555,8 @@ fn help_and_arguments() {
         "judge TOKENS TRAILING ",
         "cells S SHEET ",
         "text S SHEET ROW COLUMN UNITS ",
+        "fill S NUMBERS ",
+        "fetch-through S TABLE INDEX UNITS ",
         "profile S ",
         "cadence S ROW ",
     ] {

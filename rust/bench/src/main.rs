@@ -1,8 +1,9 @@
-//! bench [--all]: the time to check a stream of 16,000,000 bytes, and to check it and list its first sheet: the proved library against the second
+//! bench [--all|--places]: the time to check a stream of 16,000,000 bytes, and to check it and list its first sheet: the proved library against the second
 //! reader, in turn, the best of many. The stream is of mixed cells and strings; with --all there is one of each kind, hostile ones too. Where the
-//! machine counts instructions, those of one check and listing are told as well.
+//! machine counts instructions, those of one check and listing are told as well. With --places it is a million look-ups of strings through a table.
 
 mod instructions;
+mod places;
 
 use instructions::Work;
 use std::process::ExitCode;
@@ -139,9 +140,10 @@ fn main() -> ExitCode {
             }
             same
         }
+        ["--places"] => places::run(),
         [instructions::WORK, name, file] => return work(name, file),
         _ => {
-            eprintln!("usage: bench [--all]");
+            eprintln!("usage: bench [--all|--places]");
             return ExitCode::from(2);
         }
     };

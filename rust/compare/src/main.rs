@@ -3,6 +3,8 @@
 //! agree. Prints how often each refusal was met; the exit status is 1 where there was a difference, or where a refusal was met fewer than a hundred
 //! times in a run of 100,000 seeds or more.
 
+mod places;
+
 use std::collections::HashSet;
 use std::fmt::Debug;
 use std::ops::Range;
@@ -29,6 +31,7 @@ fn theirs<A>(answer: Result<A, second_reader::Refusal>) -> Outcome<A> {
 struct Comparison {
     differences: u64,
     counts: Counts,
+    met: places::Met,
 }
 
 impl Comparison {
@@ -71,6 +74,7 @@ impl Comparison {
                 let strings: Vec<_> = workbook.strings().collect();
                 self.hold("strings", seed, strings, reading.strings.clone());
                 self.strings(seed, stream, &reading.strings);
+                self.strings_through(seed, &workbook, stream, &reading.strings);
             }
             (workbook, reading) => self.hold("list", seed, workbook.err(), reading.err()),
         }
@@ -270,6 +274,7 @@ impl Comparison {
             let before = formats_and_places(stream);
             let after = formats_and_places(&changed);
             self.hold("formats and places", seed, after, before);
+            self.places_stay(seed, stream, &changed);
         }
         self.hold("correct", seed, one, two);
         self.hold("corrected bytes", seed, changed == changed_too, true);
@@ -306,6 +311,7 @@ impl Comparison {
         self.check(seed, &stream);
         self.list(seed, &stream);
         self.fetch(seed, &stream);
+        self.places(seed, &stream);
         self.text(seed, &stream);
         self.judge(seed);
         for turn in 0..3 {
@@ -430,11 +436,14 @@ fn main() -> ExitCode {
     let mut comparison = Comparison {
         differences: 0,
         counts: [0; 21],
+        met: places::Met::default(),
     };
     let whole = count >= WHOLE;
     // at and over the greatest length, where two of three are over it
     for seed in 0..if whole { 2 * LEAST } else { 3 } {
-        comparison.check(seed, &streams::longest(seed));
+        let stream = streams::longest(seed);
+        comparison.check(seed, &stream);
+        comparison.places(seed, &stream);
     }
     for seed in first..first + count {
         comparison.all(seed);
@@ -446,13 +455,16 @@ fn main() -> ExitCode {
             comparison.counts[usize::from(number)]
         );
     }
+    comparison.met.print();
     println!(
         "{count} seeds from {first}, {} differences, {:.1} s",
         comparison.differences,
         start.elapsed().as_secs_f64()
     );
     let met = |number: u8| comparison.counts[usize::from(number)];
-    let rare = station::meanings().any(|(number, _)| met(number) < LEAST) || met(0) < LEAST;
+    let rare = station::meanings().any(|(number, _)| met(number) < LEAST)
+        || met(0) < LEAST
+        || comparison.met.rare(LEAST);
     if comparison.differences > 0 || (whole && rare) {
         return ExitCode::from(1);
     }

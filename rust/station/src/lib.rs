@@ -25,7 +25,7 @@
 //! - A stream has at most 16,777,216 bytes; a longer one is refused with number 1.
 //! - After a refusal all lent memory holds what it held.
 //! - The library has no state, allocates nothing and takes no lock: any number of threads may ask at the same time, about one stream or many.
-//!   Of this layer [`Strings`] has a buffer on the heap, of [`LONGEST_STRING`] units.
+//!   Of this layer [`Strings`] has a buffer on the heap, of [`LONGEST_STRING`] units, and [`StringPlaces`] a table of two numbers for each string.
 //! - No question needs more than 64 KB of stack, whatever the stream; a [`Cells`], which holds a batch of them, is 4 KB large itself.
 
 #![warn(missing_docs)]
@@ -94,7 +94,10 @@ const MEANINGS: [(u8, &str); 19] = [
     ),
     (10, "the sheet list and the substreams disagree"),
     (11, "the sheet, string or cell asked for is absent"),
-    (12, "the buffer has fewer units than the string"),
+    (
+        12,
+        "the buffer has fewer units than the string, or the table under two numbers for each string",
+    ),
     (
         13,
         "the formula has an unknown, cut or misplaced token, or a bad length",
@@ -190,6 +193,13 @@ impl<'a> Workbook<'a> {
             left: self.strings,
             buffer: vec![0; LONGEST_STRING],
         }
+    }
+
+    /// The places of its shared strings, for fetching them in any order. It takes one more check and a pass over the string table.
+    pub fn string_places(&self) -> StringPlaces {
+        let mut table = vec![0; 2 * self.strings as usize];
+        fill(self.stream, &mut table).expect("a stream that passes, and two numbers a string");
+        StringPlaces { table }
     }
 }
 
@@ -305,6 +315,94 @@ impl Iterator for Strings<'_> {
 
     fn next(&mut self) -> Option<Vec<u16>> {
         self.next_units().map(<[u16]>::to_vec)
+    }
+}
+
+/// Puts the places of all shared strings into a lent table and says how many strings there are: two numbers for each, the offset of its head and that of the header
+/// of the record it stands in. All further numbers become 4,294,967,295. After the check's refusals, 12 where the table has under two numbers for each string;
+/// no number changes then. [`StringPlaces`] is a table of the right size.
+pub fn fill(stream: &[u8], table: &mut [u32]) -> Result<u32, Refusal> {
+    // SAFETY: both slices are valid for their lengths, and the table is lent to this call alone.
+    let answer = unsafe {
+        raw::station_fill(
+            stream.as_ptr(),
+            stream.len(),
+            table.as_mut_ptr(),
+            table.len(),
+        )
+    };
+    settled(answer.number, answer.offset)?;
+    Ok(answer.strings)
+}
+
+/// Puts the units of the string that has this entry in a table at the front of the buffer and says how many they are, without a check. Through a table that was filled
+/// for this stream it answers as [`fetch`] does; through any other, or over other bytes, it gives what reads as a string at the entry's place, or 11.
+pub fn fetch_through(
+    stream: &[u8],
+    table: &[u32],
+    index: u32,
+    buffer: &mut [u16],
+) -> Result<usize, Refusal> {
+    // SAFETY: the slices are valid for their lengths, and the buffer is lent to this call alone.
+    let answer = unsafe {
+        raw::station_fetch_through(
+            stream.as_ptr(),
+            stream.len(),
+            table.as_ptr(),
+            table.len(),
+            index,
+            buffer.as_mut_ptr(),
+            buffer.len(),
+        )
+    };
+    settled(answer.number, answer.offset)?;
+    Ok(answer.units)
+}
+
+/// The places of a stream's shared strings: filled once, from [`Workbook::string_places`], then each string is fetched by one look at the table. It doesn't borrow
+/// the stream, and a granted correction leaves it good.
+///
+/// ```
+/// use station::NewValue;
+///
+/// let mut stream = std::fs::read("../../cases/cells.in").expect("a workbook stream");
+/// let places = station::check(&stream)?.string_places();
+/// assert_eq!(places.len(), 3);
+///
+/// let mut buffer = vec![0; station::LONGEST_STRING];
+/// let units = places.fetch(&stream, 1, &mut buffer)?;
+/// assert!(buffer[..units].iter().copied().eq("zwei".encode_utf16()));
+///
+/// station::correct(&mut stream, 0, 0, 1, NewValue::Number(2.5))?;
+/// assert_eq!(places.fetch(&stream, 1, &mut buffer), Ok(4));
+/// let absent = places.fetch(&stream, 3, &mut buffer).expect_err("three strings");
+/// assert_eq!((absent.number, absent.offset), (11, 0));
+/// # Ok::<(), station::Refusal>(())
+/// ```
+#[derive(Clone, Debug, PartialEq, Eq)]
+pub struct StringPlaces {
+    table: Vec<u32>,
+}
+
+impl StringPlaces {
+    /// How many strings it has the places of.
+    pub fn len(&self) -> usize {
+        self.table.len() / 2
+    }
+
+    /// Whether there is no string.
+    pub fn is_empty(&self) -> bool {
+        self.table.is_empty()
+    }
+
+    /// The table itself, two numbers for each string.
+    pub fn table(&self) -> &[u32] {
+        &self.table
+    }
+
+    /// As [`fetch_through`] this table. The stream is the one that it was filled for, corrected or not; of another it gives what stands there.
+    pub fn fetch(&self, stream: &[u8], index: u32, buffer: &mut [u16]) -> Result<usize, Refusal> {
+        fetch_through(stream, &self.table, index, buffer)
     }
 }
 

@@ -68,6 +68,13 @@ pub struct Filled {
 }
 
 #[repr(C)]
+pub struct FilledTable {
+    pub number: u8,
+    pub offset: usize,
+    pub strings: u32,
+}
+
+#[repr(C)]
 pub struct Profile {
     pub number: u8,
     pub offset: usize,
@@ -141,6 +148,21 @@ extern "C" {
         stream: *const u8,
         length: usize,
         field: usize,
+        units: *mut u16,
+        room: usize,
+    ) -> Units;
+    pub fn station_fill(
+        stream: *const u8,
+        length: usize,
+        table: *mut u32,
+        numbers: usize,
+    ) -> FilledTable;
+    pub fn station_fetch_through(
+        stream: *const u8,
+        length: usize,
+        table: *const u32,
+        numbers: usize,
+        index: u32,
         units: *mut u16,
         room: usize,
     ) -> Units;

@@ -49,6 +49,7 @@ struct Desk {
     tokens: Vec<u8>,
     units: Vec<u16>,
     words: Vec<u64>,
+    table: Vec<u32>,
     check: raw::Check,
     sheet: raw::Sheet,
 }
@@ -95,7 +96,7 @@ fn touched(stack: &mut [u8], question: Question, desk: &mut Desk) -> usize {
 }
 
 /// Each C function. They come in an order in which one has the places that it needs from those before it.
-const QUESTIONS: [(&str, Question); 16] = [
+const QUESTIONS: [(&str, Question); 18] = [
     ("station_version", |_| {
         // SAFETY: it takes nothing.
         black_box(unsafe { raw::station_version() });
@@ -114,6 +115,20 @@ const QUESTIONS: [(&str, Question); 16] = [
         let Desk { stream, units, .. } = desk;
         let (buffer, room) = (units.as_mut_ptr(), units.len());
         black_box(unsafe { raw::station_fetch(stream.as_ptr(), stream.len(), 0, buffer, room) });
+    }),
+    ("station_fill", |desk| {
+        let Desk { stream, table, .. } = desk;
+        let (numbers, count) = (table.as_mut_ptr(), table.len());
+        black_box(unsafe { raw::station_fill(stream.as_ptr(), stream.len(), numbers, count) });
+    }),
+    ("station_fetch_through", |desk| {
+        let Desk { stream, units, .. } = desk;
+        let (buffer, room) = (units.as_mut_ptr(), units.len());
+        let (bytes, length) = (stream.as_ptr(), stream.len());
+        let (numbers, count) = (desk.table.as_ptr(), desk.table.len());
+        black_box(unsafe {
+            raw::station_fetch_through(bytes, length, numbers, count, 0, buffer, room)
+        });
     }),
     ("station_next_string", |desk| {
         let Desk { stream, units, .. } = desk;
@@ -231,6 +246,8 @@ fn desk(stream: Vec<u8>) -> Desk {
         tokens: deepest_formula(),
         units: vec![0; station::LONGEST_STRING],
         words: vec![0; 512],
+        // For the strings of the streams of a million bytes.
+        table: vec![0; 700_000],
         check,
         sheet,
     }
@@ -266,12 +283,12 @@ fn no_question_needs_more_than_the_header_says() {
 }
 
 /// What is lent to the questions holds afterwards, once each has been asked.
-fn lent_after(stream: Vec<u8>) -> (Vec<u8>, Vec<u16>, Vec<u64>) {
+fn lent_after(stream: Vec<u8>) -> (Vec<u8>, Vec<u16>, Vec<u64>, Vec<u32>) {
     let mut desk = desk(stream);
     for (_, question) in QUESTIONS {
         question(&mut desk);
     }
-    (desk.stream, desk.units, desk.words)
+    (desk.stream, desk.units, desk.words, desk.table)
 }
 
 /// An embedder's small thread, for sheets in order and out of order.

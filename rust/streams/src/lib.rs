@@ -13,6 +13,7 @@ mod contents;
 mod damage;
 mod formula;
 mod jumps;
+mod places;
 mod questions;
 mod record;
 mod rng;
@@ -25,6 +26,7 @@ mod workbook;
 pub use big::Big;
 pub use contents::{CellContents, Content, Contents, FormulaContents, SheetContents};
 pub use formula::Formula;
+pub use places::Through;
 pub use questions::{Correction, Fetch, NewValue, Text};
 
 use record::{bof, Book, Record, Tie};
@@ -109,6 +111,18 @@ pub fn fetch(seed: u64, stream: &[u8]) -> Fetch {
 /// one for its result.
 pub fn text(seed: u64, stream: &[u8]) -> Text {
     questions::text(&mut Rng::for_purpose(seed, 13), stream)
+}
+
+/// How many numbers a table has that is to be filled for a stream.
+pub fn numbers(seed: u64, stream: &[u8]) -> usize {
+    places::numbers(&mut Rng::for_purpose(seed, 14), stream)
+}
+
+/// A fetch through a table to ask for. `filled` is what filling gave for the
+/// stream, nothing where it was refused; the fetch is asked of the stream that
+/// comes with it, of the table as it was filled or made up from it.
+pub fn through(seed: u64, stream: &[u8], filled: &[u32]) -> Through {
+    places::through(&mut Rng::for_purpose(seed, 15), stream, filled)
 }
 
 /// A sheet number to ask a stream's cells of.

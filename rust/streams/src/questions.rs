@@ -148,7 +148,7 @@ pub(crate) fn fetch(rng: &mut Rng, stream: &[u8]) -> Fetch {
 }
 
 /// How many units a buffer has: enough for any string, none, or a few.
-fn units(rng: &mut Rng) -> usize {
+pub(crate) fn units(rng: &mut Rng) -> usize {
     match rng.below(10) {
         0..=3 => 70_000,
         4 => 0,
@@ -243,7 +243,7 @@ fn sheet_positions(stream: &[u8]) -> Vec<u32> {
         .collect()
 }
 
-fn unique_strings(stream: &[u8]) -> u32 {
+pub(crate) fn unique_strings(stream: &[u8]) -> u32 {
     globals(stream)
         .find(|&(kind, _)| kind == kind::SST)
         .and_then(|(_, body)| long_at(body, 4))

@@ -255,6 +255,8 @@ fn the_same_seed_gives_the_same() {
         assert_eq!(fetch, streams::fetch(seed, &stream));
         let text = streams::text(seed, &stream);
         assert_eq!(text, streams::text(seed, &stream));
+        let through = streams::through(seed, &stream, &[]);
+        assert_eq!(through, streams::through(seed, &stream, &[]));
         differing += u32::from(stream != streams::stream(seed + 1));
     }
     assert!(differing > 490);

@@ -3,6 +3,7 @@
 
 mod functions;
 mod jumps;
+mod places;
 mod sessions;
 mod text_results;
 mod tokens;

@@ -12,7 +12,7 @@ use std::cell::RefCell;
 pub struct Book<'a> {
     stream: &'a [u8],
     workbook: Workbook<'a>,
-    strings: SharedStrings,
+    strings: SharedStrings<'a>,
     /// Room for the text of any formula.
     text: RefCell<Vec<u16>>,
     /// The one sheet that is asked for, where not all are.
@@ -44,10 +44,15 @@ impl<'a> Book<'a> {
             }
             None => None,
         };
+        // One sheet of several shows a part of the strings.
+        let strings = match only {
+            Some(_) if workbook.sheets > 1 => SharedStrings::each(&workbook, stream),
+            _ => SharedStrings::all(&workbook),
+        };
         Ok(Book {
             stream,
             workbook,
-            strings: SharedStrings::of(&workbook),
+            strings,
             text: RefCell::new(vec![0; LONGEST_STRING]),
             only,
             dates: None,
@@ -104,7 +109,7 @@ impl<'a> Book<'a> {
         match cell.value() {
             Value::Blank => ("blank", Shown::Nothing),
             Value::Number(bits) => ("number", self.number(format, bits)),
-            Value::Text(index) => ("text", Shown::Text(self.strings.get(index).into())),
+            Value::Text(index) => ("text", Shown::Text(self.strings.get(index))),
             Value::Truth(truth) => ("truth", Shown::Truth(truth != 0)),
             Value::Error(code) => ("error", Shown::Error(errors::name(code))),
             Value::Formula(FormulaResult::Number(bits)) => {

@@ -1,17 +1,33 @@
 //! The shared strings of a workbook, at hand for its cells.
 
-use station::Workbook;
+use station::{StringPlaces, Workbook, LONGEST_STRING};
+use std::borrow::Cow;
+use std::cell::RefCell;
+
+pub enum SharedStrings<'a> {
+    All(Copied),
+    Each(Placed<'a>),
+}
 
 /// All shared strings, one after the other: millions of empty ones take little room.
-pub struct SharedStrings {
+pub struct Copied {
     units: Vec<u16>,
     /// Where each string ends.
     ends: Vec<usize>,
 }
 
-impl SharedStrings {
-    pub fn of(workbook: &Workbook<'_>) -> Self {
-        let mut strings = SharedStrings {
+/// Where they stand: a string is read when it is asked for.
+pub struct Placed<'a> {
+    stream: &'a [u8],
+    places: StringPlaces,
+    /// Room for any of them.
+    room: RefCell<Vec<u16>>,
+}
+
+impl<'a> SharedStrings<'a> {
+    /// For cells that show most of them: one pass, and each is there.
+    pub fn all(workbook: &Workbook<'_>) -> Self {
+        let mut strings = Copied {
             units: Vec::new(),
             ends: Vec::new(),
         };
@@ -20,15 +36,43 @@ impl SharedStrings {
             strings.units.extend(units);
             strings.ends.push(strings.units.len());
         }
-        strings
+        SharedStrings::All(strings)
     }
 
-    pub fn get(&self, index: u32) -> &[u16] {
+    /// For cells that show a few of many.
+    pub fn each(workbook: &Workbook<'_>, stream: &'a [u8]) -> Self {
+        SharedStrings::Each(Placed {
+            stream,
+            places: workbook.string_places(),
+            room: RefCell::new(vec![0; LONGEST_STRING]),
+        })
+    }
+
+    /// The string that a cell's index names.
+    pub fn get(&self, index: u32) -> Cow<'_, [u16]> {
+        match self {
+            SharedStrings::All(strings) => strings.get(index).into(),
+            SharedStrings::Each(strings) => strings.get(index).into(),
+        }
+    }
+}
+
+impl Copied {
+    fn get(&self, index: u32) -> &[u16] {
         let index = index as usize;
         let start = match index.checked_sub(1) {
             Some(before) => self.ends[before],
             None => 0,
         };
         &self.units[start..self.ends[index]]
+    }
+}
+
+impl Placed<'_> {
+    fn get(&self, index: u32) -> Vec<u16> {
+        let mut room = self.room.borrow_mut();
+        let count = self.places.fetch(self.stream, index, &mut room);
+        let count = count.expect("a stream that passes has the string of each index");
+        room[..count].to_vec()
     }
 }

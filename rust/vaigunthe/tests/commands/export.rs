@@ -202,13 +202,18 @@ fn made_streams_read_back() {
 #[test]
 fn one_sheet_of_many() {
     let streams = (0..).map(streams::valid);
+    let mut texts = 0;
     for stream in streams
         .filter(|stream| {
             second_reader::check(stream).is_ok_and(|passed| passed.sheets >= 3 && passed.cells > 20)
         })
-        .take(3)
+        .take(5)
     {
         let reading = second_reader::read(&stream).expect("a valid stream");
+        let cells = reading.sheets.iter().flat_map(|sheet| &sheet.cells);
+        texts += cells
+            .filter(|cell| matches!(cell.value, Value::Text(_)))
+            .count();
         for number in 0..reading.sheets.len() {
             let word = number.to_string();
             let ran = run_with(&["export", "-", "--sheet", &word, "--csv"], &stream);
@@ -220,6 +225,7 @@ fn one_sheet_of_many() {
         let ran = run_with(&["export", "-", "--csv", "--sheet", &beyond], &stream);
         ran.refuses_data("refused 11 at 0");
     }
+    assert!(texts > 5, "only {texts} shared strings");
 }
 
 #[test]

@@ -1,0 +1,167 @@
+-- The places of the strings after a granted correction. Assumes nothing.
+use Prim.Native.Nat.{ℕ, zero, suc, _+_, _≤_}
+use mathlib.Core.Path.{_≡_, refl, sym, ap, _∙_, subst, subst⁻¹}
+use mathlib.Core.List.{List, []}
+use mathlib.Core.Logic.{_⊎_, inl, inr}
+use native.Mathlib.Omega.{arith}
+use lib.ListN.{length}
+use Rattle.le.specs.Bytes.{u16At}
+use Rattle.le.proofs.Laws.{Same, num-same}
+use Rattle.record.proofs.Laws.{whole}
+use Rattle.segments.specs.declared.Cursor.{Cursor}
+use Rattle.segments.specs.Segments.{Got, got, listOf}
+use Rattle.segments.proofs.Local.{continues-kept}
+use Rattle.walk.specs.Items.{nth}
+use Rattle.strings.specs.declared.Fetched.the-variants as fetched
+use Rattle.strings.specs.Table.{tableOf, answerOf, placesOf, fetchedOf, bufferOf}
+use Rattle.strings.proofs.Local.{table-same}
+use Rattle.value.specs.declared.Field.{Field}
+use Rattle.change.specs.declared.NewValue.{NewValue}
+use Rattle.change.specs.Change.{Held}
+use Rattle.globals.specs.declared.Globals.{Globals}
+use Rattle.workbook.specs.declared.Checked.{Checked}
+use Rattle.workbook.specs.declared.Checked.the-variants.{Right}
+use Rattle.workbook.specs.Check.{checkedOf, onChecked}
+use Rattle.reading.specs.Reading.{stringsAt}
+use Rattle.correction.specs.Correction.{correctionOf, writes, streamAfter}
+use Rattle.fetch.specs.Fetch.{answerIn, bufferIn}
+use Rattle.chain.proofs.Chain.{reach-ahead}
+use Rattle.chain.proofs.Sheets.{passing}
+use Rattle.chain.proofs.Table.{table-reach}
+use Rattle.upheld.specs.Granted.{Granted}
+use Rattle.upheld.proofs.Granted.{granted}
+use Rattle.upheld.proofs.Upheld.{upheld}
+use Rattle.reread.proofs.Fields.{inside, same-before}
+use Rattle.reread.proofs.Found.{reach-found, corrected}
+use Rattle.reread.proofs.Strings.{Table, Tabled, globals-tabled, strings-kept}
+use Rattle.places.specs.declared.Filled.{Filled}
+use Rattle.places.specs.declared.Filled.the-variants.{Strings, Refused}
+use Rattle.places.specs.Places.{placesAt, filledOf, fillOf, tableAfter, throughOf, bufferThrough}
+use Rattle.places.specs.Places as places
+use Rattle.places.proofs.Filling.{places-none, places-some}
+use Rattle.places.proofs.Claims.{given, through-filled, buffer-filled}
+use Rattle.claims.specs.Tables.{SameTable, Outlives}
+use Rattle.claims.proofs.Demand3.{Made, made, one}
+
+-- ---- two streams of one length with the same bytes up to two past the globals
+module _ (s s′ : List ℕ) (len : length s ≡ length s′) (to : ℕ) (same : Same s s′ 0 (to + 2)) where
+  table-kept : (p : ℕ) → 1 ≤ p → Table s p to → placesAt s′ p ≡ placesAt s p
+  table-kept p later t =
+      let w = whole s p 0x00FC (t .size) (t .end) (t .header) in
+      let l = t .ends in
+      let m = reach-ahead s (table-reach s p (t .end) (length (t .places)) (t .last .end) (ap answerOf (t .is))) in
+      let size : u16At s (p + 2) ≡ u16At s′ (p + 2) = num-same s s′ 2 (p + 2) (λ k i j. same k (omega arith) (omega arith)) in
+      let end : p + 4 + u16At s (p + 2) ≡ t .end = omega arith in
+      let is : tableOf s p (p + 4 + u16At s (p + 2)) ≡ got (t .places) (t .last) = ap (tableOf s p) end ∙ t .is in
+      places-some s′ p (omega arith)
+      ∙ ap (λ (n : ℕ). placesOf s′ p (p + 4 + n)) (sym size)
+      ∙ ap (λ (x : Got (List Cursor)). listOf x)
+      (table-same s s′ len p (p + 4 + u16At s (p + 2)) (omega arith) (t .places) (t .last) is (λ k i j. same k (omega arith) (omega arith))
+      (continues-kept s s′ len 0 (to + 2) same (t .last .end) (omega arith) (omega arith)) ∙ sym is)
+      ∙ sym (places-some s p (omega arith))
+
+  positive : (p : ℕ) → (p ≡ 0) ⊎ (1 ≤ p)
+  positive zero = inl refl
+  positive (suc p) = inr (omega arith)
+
+  places-kept : (g : Globals) → g .at ≡ to → Tabled s g → placesAt s′ (g .table) ≡ placesAt s (g .table)
+  places-kept g q (inl h) = places-none s′ (g .table) h ∙ sym (places-none s (g .table) h)
+  places-kept g q (inr h) = by (positive (g .table))
+    where
+      by : (g .table ≡ 0) ⊎ (1 ≤ g .table) → placesAt s′ (g .table) ≡ placesAt s (g .table)
+      by (inl z) = places-none s′ (g .table) z ∙ sym (places-none s (g .table) z)
+      by (inr l) = table-kept (g .table) l (subst (Table s (g .table)) q h)
+
+-- ---- a granted correction
+module _ (s : List ℕ) (n row column : ℕ) (v : NewValue) (f : Field) (p b : ℕ) (held : Held v) (h : correctionOf s n row column v ≡ writes f p b) where
+  abbrev s′ : List ℕ
+  s′ = streamAfter s (writes f p b)
+
+  r : Granted s n row column v f p b
+  r = granted s n row column v f p b h
+
+  abbrev g : Globals
+  g = r .globals
+
+  len : length s ≡ length s′
+  len = corrected r held .size
+
+  tabled : Tabled s g
+  tabled = globals-tabled s 0 g (passing s 0 g (r .passes) .globals)
+
+  same : Same s s′ 0 (g .at + 2)
+  same = let c = corrected r held in let l = reach-ahead s (reach-found r) in let k = inside c in same-before c 0 (g .at + 2) (omega arith)
+
+  places-same : placesAt s′ (g .table) ≡ placesAt s (g .table)
+  places-same = places-kept s s′ len (g .at) same g refl tabled
+
+  strings-same : stringsAt s′ (g .table) ≡ stringsAt s (g .table)
+  strings-same = strings-kept s s′ len (g .at) same g refl tabled
+
+  passes′ : checkedOf s′ 0 ≡ Right g
+  passes′ = upheld s n row column v f p b held h ∙ r .passes
+
+  module _ (t : List ℕ) where
+    fill-same : fillOf s′ 0 t ≡ fillOf s 0 t
+    unfolding fillOf
+    fill-same =
+        ap (onChecked Refused (λ (x : Globals). filledOf (length t) (placesAt s′ (x .table)))) passes′
+        ∙ ap (filledOf (length t)) places-same
+        ∙ ap (onChecked Refused (λ (x : Globals). filledOf (length t) (placesAt s (x .table)))) (sym (r .passes))
+
+    after-same : tableAfter s′ 0 t ≡ tableAfter s 0 t
+    unfolding tableAfter
+    after-same =
+        ap (onChecked (λ _ _. t) (λ (x : Globals). places.tableOf t (placesAt s′ (x .table)))) passes′
+        ∙ ap (places.tableOf t) places-same
+        ∙ ap (onChecked (λ _ _. t) (λ (x : Globals). places.tableOf t (placesAt s (x .table)))) (sym (r .passes))
+
+    module _ (k : ℕ) (e : fillOf s 0 t ≡ Strings k) (i : ℕ) (c : List ℕ) where
+      e′ : fillOf s′ 0 t ≡ Strings k
+      e′ = fill-same ∙ e
+
+      right-one : (x : Globals) (a : List ℕ) → checkedOf a 0 ≡ Right x → checkedOf a 0 ≡ Right g → x ≡ g
+      right-one x a y z = cc
+
+      globals-one : given s t 0 k e i c .globals ≡ g
+      globals-one = right-one (given s t 0 k e i c .globals) s (given s t 0 k e i c .passes) (r .passes)
+
+      globals-one′ : given s′ t 0 k e′ i c .globals ≡ g
+      globals-one′ = right-one (given s′ t 0 k e′ i c .globals) s′ (given s′ t 0 k e′ i c .passes) passes′
+
+      through-same : throughOf s′ (tableAfter s 0 t) i c ≡ throughOf s (tableAfter s 0 t) i c
+      through-same =
+          ap (λ (x : List ℕ). throughOf s′ x i c) (sym after-same)
+          ∙ through-filled s′ t 0 k e′ i c
+          ∙ ap (answerIn s′ i c) globals-one′
+          ∙ answers
+          ∙ ap (answerIn s i c) (sym globals-one)
+          ∙ sym (through-filled s t 0 k e i c)
+        where
+          answers : answerIn s′ i c g ≡ answerIn s i c g
+          answers = ap (λ (x : List (List ℕ)). nth x i (fetchedOf (length c)) (fetched.Refused 11 0)) strings-same
+
+      buffer-same : bufferThrough s′ (tableAfter s 0 t) i c ≡ bufferThrough s (tableAfter s 0 t) i c
+      buffer-same =
+          ap (λ (x : List ℕ). bufferThrough s′ x i c) (sym after-same)
+          ∙ buffer-filled s′ t 0 k e′ i c
+          ∙ ap (bufferIn s′ i c) globals-one′
+          ∙ buffers
+          ∙ ap (bufferIn s i c) (sym globals-one)
+          ∙ sym (buffer-filled s t 0 k e i c)
+        where
+          buffers : bufferIn s′ i c g ≡ bufferIn s i c g
+          buffers = ap (λ (x : List (List ℕ)). nth x i (bufferOf c) c) strings-same
+
+-- the stream after a granted correction
+pub same-table : SameTable
+same-table s n row column v t h =
+    let m = made h in
+    one m (λ a. subst⁻¹ (λ (x : List ℕ). (fillOf x 0 a ≡ fillOf s 0 a) × (tableAfter x 0 a ≡ tableAfter s 0 a)) (m .after)
+    (fill-same s n row column v (m .kind) (m .place) (m .number) (h .held) (m .is) a, after-same s n row column v (m .kind) (m .place) (m .number) (h .held) (m .is) a))
+
+pub outlives : Outlives
+outlives s n row column v t h =
+    let m = made h in
+    one m (λ a k e i b. subst⁻¹ (λ (x : List ℕ). (throughOf x (tableAfter s 0 a) i b ≡ throughOf s (tableAfter s 0 a) i b) × (bufferThrough x (tableAfter s 0 a) i b ≡ bufferThrough s (tableAfter s 0 a) i b)) (m .after)
+    (through-same s n row column v (m .kind) (m .place) (m .number) (h .held) (m .is) a k e i b, buffer-same s n row column v (m .kind) (m .place) (m .number) (h .held) (m .is) a k e i b))

@@ -1,0 +1,19 @@
+-- A table of string places outlives corrections: a granted correction writes outside the string table. s is the stream before it, t the stream after it,
+-- a the lent table before filling.
+use Prim.Native.Nat.{ℕ}
+use mathlib.Core.Path.{_≡_}
+use mathlib.Core.List.{List}
+use Rattle.places.specs.declared.Filled.the-variants.{Strings}
+use Rattle.places.specs.Places.{fillOf, tableAfter, throughOf, bufferThrough}
+use Rattle.claims.specs.Demand3.{Granted}
+
+-- filling after it gives the table that filling before it gave
+abbrev pub SameTable : Type 0
+SameTable = Granted (λ s n row column v c t. (a : List ℕ) → (fillOf t 0 a ≡ fillOf s 0 a) × (tableAfter t 0 a ≡ tableAfter s 0 a))
+
+-- a fetch through the table that was filled before it answers the same after it, for every index and every buffer
+abbrev pub Outlives : Type 0
+Outlives =
+    Granted (λ s n row column v c t.
+    (a : List ℕ) (k : ℕ) → fillOf s 0 a ≡ Strings k → (i : ℕ) (b : List ℕ)
+    → (throughOf t (tableAfter s 0 a) i b ≡ throughOf s (tableAfter s 0 a) i b) × (bufferThrough t (tableAfter s 0 a) i b ≡ bufferThrough s (tableAfter s 0 a) i b))

@@ -1,0 +1,5 @@
+pub mod Standing
+pub mod Laws
+pub mod Filling
+pub mod Through
+pub mod Claims
