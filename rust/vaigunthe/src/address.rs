@@ -67,16 +67,20 @@ impl Address {
     }
 }
 
+/// The letters of a column: A to Z, AA and so on.
+pub fn letters(column: u32) -> String {
+    let mut letters = Vec::new();
+    let mut left = column + 1;
+    while left > 0 {
+        letters.push(char::from(b'A' + ((left - 1) % 26) as u8));
+        left = (left - 1) / 26;
+    }
+    letters.iter().rev().collect()
+}
+
 impl Display for Address {
     fn fmt(&self, f: &mut Formatter<'_>) -> fmt::Result {
-        let mut letters = Vec::new();
-        let mut left = self.column + 1;
-        while left > 0 {
-            letters.push(char::from(b'A' + ((left - 1) % 26) as u8));
-            left = (left - 1) / 26;
-        }
-        let letters: String = letters.iter().rev().collect();
-        write!(f, "{letters}{}", self.row + 1)
+        write!(f, "{}{}", letters(self.column), self.row + 1)
     }
 }
 

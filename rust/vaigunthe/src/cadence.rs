@@ -2,9 +2,10 @@
 
 use crate::arguments::{Arguments, Operands, Setting};
 use crate::commands::Command;
+use crate::figures::{seconds, TICKS_PER_SECOND};
 use crate::input::{Stream, STANDARD};
 use crate::outcome::{Failure, Output, Status};
-use crate::picture::{self, Stretch, TICKS_PER_SECOND};
+use crate::picture::{self, Stretch};
 use crate::profile::explained;
 use crate::replace::Place;
 use station::{Pair, Pairs};
@@ -108,14 +109,14 @@ fn run(arguments: &Arguments, out: &mut Output) -> Result<Status, Failure> {
 }
 
 /// A pair, its earlier row, and how long it was in ticks.
-struct Between {
+pub struct Between {
     row: u32,
-    pair: Pair,
-    ticks: u64,
+    pub pair: Pair,
+    pub ticks: u64,
 }
 
 /// The pairs of a session with their rows. Only the host's seconds tell a pause, and they tell how long it was.
-fn between(mut pairs: Pairs<'_>) -> impl Iterator<Item = Between> + '_ {
+pub fn between(mut pairs: Pairs<'_>) -> impl Iterator<Item = Between> + '_ {
     let mut row = 0;
     std::iter::from_fn(move || {
         let before = pairs.seconds();
@@ -139,10 +140,10 @@ fn between(mut pairs: Pairs<'_>) -> impl Iterator<Item = Between> + '_ {
 
 impl Between {
     fn seconds(&self) -> f64 {
-        self.ticks as f64 / TICKS_PER_SECOND as f64
+        seconds(self.ticks)
     }
 
-    fn stretch(&self) -> Stretch {
+    pub fn stretch(&self) -> Stretch {
         let ticks = self.ticks;
         match self.pair {
             Pair::Pause => Stretch::Pause { ticks },

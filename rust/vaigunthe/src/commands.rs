@@ -6,7 +6,9 @@ use crate::nearest::nearest;
 use crate::outcome::{Failure, Output, Status};
 use crate::page::{Page, Part};
 use crate::text::Word;
-use crate::{cadence, check, completions, correct, export, help, judge, lines, manual, profile};
+use crate::{
+    cadence, check, completions, correct, export, help, judge, lines, manual, profile, report,
+};
 use std::ffi::{OsStr, OsString};
 use std::io::Write;
 
@@ -27,9 +29,10 @@ pub struct Command {
     pub run: fn(&Arguments, &mut Output) -> Result<Status, Failure>,
 }
 
-pub static COMMANDS: [Command; 13] = [
+pub static COMMANDS: [Command; 14] = [
     check::CHECK,
     lines::SHEETS,
+    report::REPORT,
     export::EXPORT,
     correct::CORRECT,
     lines::LIST,

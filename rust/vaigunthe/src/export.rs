@@ -1,22 +1,19 @@
 //! export: the cells of a workbook with their texts, cell by cell as CSV or JSON, or as the grid that a sheet is.
 
-mod book;
 mod csv;
 mod folder;
 mod grid;
 mod json;
-mod number;
-mod strings;
 
 use crate::arguments::{Arguments, Operands, Setting};
+use crate::book::Book;
 use crate::commands::Command;
-use crate::input::{Stream, STANDARD};
+use crate::input::Stream;
 use crate::outcome::{Failure, Output, Status};
 use crate::replace::{Place, Written};
+use crate::target::Target;
 use crate::wanted::Wanted;
-use book::Book;
 use station::Refusal;
-use std::ffi::OsStr;
 use std::io::{self, Write};
 use std::path::Path;
 
@@ -214,27 +211,12 @@ impl Form {
 }
 
 /// Where it goes.
-enum Target<'a> {
-    Output,
-    File(&'a OsStr),
-    Folder(&'a OsStr),
-}
-
-impl<'a> Target<'a> {
-    fn of(arguments: &'a Arguments) -> Result<Self, Failure> {
-        let (file, folder) = (
-            arguments.option("--output"),
-            arguments.option("--output-dir"),
-        );
-        match (file, folder) {
-            (Some(_), Some(_)) => Err(Failure::usage("--output and --output-dir: one is enough")),
-            (_, Some(_)) if arguments.has("--sheet") => Err(Failure::usage(
-                "--output-dir is for all sheets: with --sheet use --output",
-            )),
-            (None, Some(folder)) => Ok(Target::Folder(folder)),
-            (Some(name), None) if name != STANDARD => Ok(Target::File(name)),
-            (_, None) => Ok(Target::Output),
-        }
+fn target(arguments: &Arguments) -> Result<Target<'_>, Failure> {
+    match Target::of(arguments)? {
+        Target::Folder(_) if arguments.has("--sheet") => Err(Failure::usage(
+            "--output-dir is for all sheets: with --sheet use --output",
+        )),
+        target => Ok(target),
     }
 }
 
@@ -243,7 +225,7 @@ const MARK: &str = "\u{FEFF}";
 
 fn run(arguments: &Arguments, out: &mut Output) -> Result<Status, Failure> {
     let form = Form::of(arguments)?;
-    let target = Target::of(arguments)?;
+    let target = target(arguments)?;
     let mark = if arguments.has("--bom") { MARK } else { "" };
     let only = arguments.option("--sheet");
     let only = only.map(|word| Wanted::read("--sheet", word)).transpose()?;
@@ -271,7 +253,9 @@ fn run(arguments: &Arguments, out: &mut Output) -> Result<Status, Failure> {
         }
         Target::Folder(name) => folder::write(&book, &stream, mark, name)?,
     }
-    book.tell_system(&stream);
+    if let Some(note) = book.about_dates() {
+        stream.note(note);
+    }
     Ok(Status::Answered)
 }
 

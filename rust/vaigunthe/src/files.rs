@@ -5,10 +5,20 @@ use crate::input::{Stream, STANDARD};
 use crate::outcome::{complain, Failure, Output, Status};
 use crate::progress::Progress;
 use crate::text::Name;
+use std::ffi::OsString;
 use std::io::Write;
 
 /// What is said of a stream: an answer, or why it is refused.
 pub type Said = Result<String, String>;
+
+/// The files of a command that takes several.
+pub fn several(arguments: &Arguments) -> Result<&[OsString], Failure> {
+    let files = arguments.operands();
+    match files.iter().filter(|file| *file == STANDARD).count() {
+        0 | 1 => Ok(files),
+        _ => Err(Failure::usage("standard input can be read only once")),
+    }
+}
 
 /// Says a line of each file, in the order given. One that can't be read keeps none of the others from its answer.
 pub fn say_each(
@@ -16,11 +26,8 @@ pub fn say_each(
     out: &mut Output,
     say: fn(&[u8]) -> Said,
 ) -> Result<Status, Failure> {
-    let files = arguments.operands();
-    if files.iter().filter(|file| *file == STANDARD).count() > 1 {
-        return Err(Failure::usage("standard input can be read only once"));
-    }
-    let mut progress = Progress::on_standard_error(files.len());
+    let files = several(arguments)?;
+    let mut progress = Progress::on_standard_error("checking", files.len());
     let mut status = Status::Answered;
     for (done, file) in files.iter().enumerate() {
         progress.show(done + 1);

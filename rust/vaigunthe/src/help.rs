@@ -15,7 +15,7 @@ is proved.
 ";
 
 /// What somebody needs who has just got it.
-const FIRST_STEPS: [(&str, &str); 6] = [
+const FIRST_STEPS: [(&str, &str); 7] = [
     (
         "gsf cat session.xls Workbook > session.bin",
         "take the workbook stream out of an .xls file (gsf is in Debian's package libgsf-bin)",
@@ -25,6 +25,10 @@ const FIRST_STEPS: [(&str, &str); 6] = [
         "does it pass, and what does it hold?",
     ),
     ("vaigunthe sheets session.bin", "its sheets"),
+    (
+        "vaigunthe report session.bin --output report.html",
+        "all of it as a page, to look at in a browser or print",
+    ),
     (
         "vaigunthe export session.bin --grid > session.csv",
         "its one worksheet as a table",

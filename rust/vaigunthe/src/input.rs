@@ -14,8 +14,11 @@ use std::path::Path;
 /// The word for standard input, and for standard output where something is written.
 pub const STANDARD: &str = "-";
 
-/// One byte more than a stream may have: enough for the library to refuse it, however long the file is.
-const ENOUGH: u64 = 16_777_216 + 1;
+/// So many bytes a stream may have.
+pub const LONGEST: usize = 16_777_216;
+
+/// One byte more: enough for the library to refuse it, however long the file is.
+const ENOUGH: u64 = LONGEST as u64 + 1;
 
 /// The bytes of a stream, and the name they go by.
 pub struct Stream<'n> {
@@ -84,12 +87,17 @@ impl<'n> Stream<'n> {
 
     /// Why it can't be done with this stream.
     pub fn failure(&self, message: impl Display) -> Failure {
-        Failure::File(format!("{}: {message}", self.called()))
+        Failure::File(self.message(message))
     }
 
     /// Says something of this stream on standard error.
     pub fn note(&self, note: impl Display) {
-        complain(format_args!("{}: {note}", self.called()));
+        complain(self.message(note));
+    }
+
+    /// What is said of this stream, with its name.
+    pub fn message(&self, note: impl Display) -> String {
+        format!("{}: {note}", self.called())
     }
 
     /// What a refusal can't say: what kind of file this is, and how to come from it to a stream.
@@ -100,7 +108,7 @@ impl<'n> Stream<'n> {
     }
 
     /// What the stream is called in messages.
-    fn called(&self) -> Name<'n> {
+    pub fn called(&self) -> Name<'n> {
         Name(match self.name == STANDARD {
             true => "standard input".as_ref(),
             false => self.name,

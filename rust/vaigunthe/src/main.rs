@@ -5,6 +5,8 @@
 
 mod address;
 mod arguments;
+mod bits;
+mod book;
 mod cadence;
 mod check;
 mod commands;
@@ -12,7 +14,9 @@ mod completions;
 mod correct;
 mod errors;
 mod export;
+mod figures;
 mod files;
+mod folder;
 mod help;
 mod hint;
 mod input;
@@ -26,8 +30,12 @@ mod picture;
 mod profile;
 mod progress;
 mod replace;
+mod report;
+mod sha256;
 mod signals;
+mod target;
 mod text;
+mod threads;
 mod value;
 mod wanted;
 

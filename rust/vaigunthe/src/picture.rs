@@ -4,8 +4,9 @@
 mod axis;
 mod line;
 
+use crate::figures::{counted, duration, TICKS_PER_SECOND};
 use crate::text::InXml;
-use axis::{grouped, Axis, Unit};
+use axis::{Axis, Unit};
 use line::Line;
 use std::io::{self, Write};
 
@@ -35,8 +36,6 @@ impl Stretch {
         }
     }
 }
-
-pub const TICKS_PER_SECOND: u64 = 1_024;
 
 const WIDTH: u32 = 960;
 const HEIGHT: u32 = 400;
@@ -79,8 +78,14 @@ impl Frame {
     }
 }
 
-/// Draws a session. The title says whose it is: it is plain text, of any characters.
+/// Draws a session, as a file of its own. The title says whose it is: it is plain text, of any characters.
 pub fn write<W: Write>(title: &str, stretches: &[Stretch], out: &mut W) -> io::Result<()> {
+    writeln!(out, "<?xml version=\"1.0\" encoding=\"UTF-8\"?>")?;
+    write_element(title, stretches, out)
+}
+
+/// The same picture, to stand in a page.
+pub fn write_element<W: Write>(title: &str, stretches: &[Stretch], out: &mut W) -> io::Result<()> {
     let highest = stretches.iter().filter_map(Stretch::cadence).max();
     let total: u64 = stretches.iter().map(Stretch::ticks).sum();
     let vertical = Axis::of_cadence(highest.unwrap_or(0));
@@ -125,15 +130,14 @@ fn summary(stretches: &[Stretch], total: u64, seen: bool) -> String {
     format!(
         "{}, {}, {}{}",
         counted(stretches.len(), "pair of rows", "pairs of rows"),
-        axis::duration(total),
+        duration(total),
         counted(pauses, "pause", "pauses"),
         if seen { " (grey)" } else { "" }
     )
 }
 
-/// The start of the file, the title and the words under it.
+/// The start of the picture, the title and the words under it.
 fn write_head<W: Write>(title: &str, summary: &str, out: &mut W) -> io::Result<()> {
-    writeln!(out, "<?xml version=\"1.0\" encoding=\"UTF-8\"?>")?;
     writeln!(
         out,
         "<svg xmlns=\"http://www.w3.org/2000/svg\" width=\"{WIDTH}\" height=\"{HEIGHT}\" viewBox=\"0 0 {WIDTH} {HEIGHT}\" \
@@ -151,14 +155,6 @@ fn write_head<W: Write>(title: &str, summary: &str, out: &mut W) -> io::Result<(
         InXml(&cut(title))
     )?;
     write_text(out, (16.0, 47.0), "start", FAINT_INK, summary)
-}
-
-fn counted(count: usize, one: &str, more: &str) -> String {
-    match count {
-        0 => format!("no {one}"),
-        1 => format!("1 {one}"),
-        _ => format!("{} {more}", grouped(count as f64, 0)),
-    }
 }
 
 /// The start of a title that is too long for the picture. Characters from far east are twice as wide.

@@ -76,6 +76,12 @@ impl Place {
         held.is_some_and(|old| is_at(&old.file, path))
     }
 
+    /// The file that will be replaced, where there is one.
+    pub fn replaced(&self) -> Option<Identity> {
+        let held = self.old.as_ref();
+        held.map(|old| identity(&old.found))
+    }
+
     /// Puts there what is written, so that it lasts over a power cut where that is asked for. The new file has the permissions and, as far as the system allows it, the owner of the old one.
     pub fn put(
         &self,
@@ -106,11 +112,17 @@ fn is_link(path: &Path) -> bool {
     fs::symlink_metadata(path).is_ok_and(|found| found.is_symlink())
 }
 
+/// What tells a file from all others, whatever its names: its device and its number there.
+pub type Identity = (u64, u64);
+
+pub fn identity(found: &Metadata) -> Identity {
+    (found.dev(), found.ino())
+}
+
 /// Whether the path leads to this open file.
 fn is_at(file: &File, path: &Path) -> bool {
-    let number = |found: Metadata| (found.dev(), found.ino());
     match (file.metadata(), fs::metadata(path)) {
-        (Ok(one), Ok(other)) => number(one) == number(other),
+        (Ok(one), Ok(other)) => identity(&one) == identity(&other),
         _ => false,
     }
 }

@@ -29,8 +29,8 @@ static DOOMED: AtomicPtr<c_char> = AtomicPtr::new(null_mut());
 /// Removes the file, and ends as if there were no handler.
 extern "C" fn end(number: c_int) {
     let path = DOOMED.load(Ordering::SeqCst);
-    // SAFETY: all three may be called in a handler. The path is a string that lives as long as it is in DOOMED: the tool has one thread, which stands still
-    // while this runs.
+    // SAFETY: all three may be called in a handler. The path is a string that lives as long as it is in DOOMED: while one is there the tool has one thread,
+    // which stands still while this runs.
     unsafe {
         if !path.is_null() {
             unlink(path);

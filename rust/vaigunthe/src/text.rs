@@ -1,4 +1,4 @@
-//! The text of a workbook as it is written down: in lines, in CSV, in JSON and in XML.
+//! The text of a workbook as it is written down: in lines, in CSV, in JSON, in XML and in a page for browsers.
 
 use std::ffi::OsStr;
 use std::fmt::{self, Display, Formatter, Write};
@@ -165,5 +165,97 @@ impl Display for InXml<'_> {
             hidden if is_control(hidden) => write_code(f, hidden.into()),
             plain => f.write_char(plain),
         })
+    }
+}
+
+/// Text between the tags of a page. Tabs and line feeds stay; whatever else can't be seen, turns the direction of text or is no character is shown by its code, in an
+/// element of its own, so that it isn't taken for those characters themselves.
+pub struct InPage<'a>(pub &'a [u16]);
+
+impl Display for InPage<'_> {
+    fn fmt(&self, f: &mut Formatter<'_>) -> fmt::Result {
+        characters(self.0).try_for_each(|character| write_in_page(f, character))
+    }
+}
+
+/// The same for words of the tool, and for names of files as they stand in a line.
+pub struct WordsInPage<'a>(pub &'a str);
+
+impl Display for WordsInPage<'_> {
+    fn fmt(&self, f: &mut Formatter<'_>) -> fmt::Result {
+        let mut characters = self.0.chars();
+        characters.try_for_each(|character| write_in_page(f, Ok(character)))
+    }
+}
+
+/// Quotes are escaped too, though no text stands in an attribute.
+fn write_in_page(f: &mut Formatter<'_>, character: Result<char, u16>) -> fmt::Result {
+    match character {
+        Ok('&') => f.write_str("&amp;"),
+        Ok('<') => f.write_str("&lt;"),
+        Ok('>') => f.write_str("&gt;"),
+        Ok('"') => f.write_str("&quot;"),
+        Ok('\'') => f.write_str("&#39;"),
+        Ok(plain @ ('\t' | '\n')) => f.write_char(plain),
+        Ok(hidden) if is_control(hidden) || is_no_character(hidden) => {
+            write_page_code(f, hidden.into())
+        }
+        Ok(plain) => f.write_char(plain),
+        Err(lone) => write_page_code(f, lone.into()),
+    }
+}
+
+fn write_page_code(f: &mut Formatter<'_>, code: u32) -> fmt::Result {
+    write!(f, "<i class=u>U+{code:04X}</i>")
+}
+
+/// Codes that Unicode gives to no character, ever.
+fn is_no_character(character: char) -> bool {
+    let code = u32::from(character);
+    (0xFDD0..0xFDF0).contains(&code) || code & 0xFFFE == 0xFFFE
+}
+
+#[cfg(test)]
+mod tests {
+    use super::*;
+
+    #[test]
+    fn in_a_page() {
+        let shown = |units: &[u16]| InPage(units).to_string();
+        let text = |text: &str| shown(&text.encode_utf16().collect::<Vec<_>>());
+        assert_eq!(
+            text("<script>alert(\"1\"&'2')</script>"),
+            "&lt;script&gt;alert(&quot;1&quot;&amp;&#39;2&#39;)&lt;/script&gt;"
+        );
+        assert_eq!(text("a\tb\nc"), "a\tb\nc");
+        assert_eq!(
+            text("\r\0\u{1B}\u{85}\u{202E}\u{2066}\u{FFFE}\u{1FFFF}\u{FDD0}"),
+            "<i class=u>U+000D</i><i class=u>U+0000</i><i class=u>U+001B</i><i class=u>U+0085</i><i class=u>U+202E</i>\
+             <i class=u>U+2066</i><i class=u>U+FFFE</i><i class=u>U+1FFFF</i><i class=u>U+FDD0</i>"
+        );
+        assert_eq!(shown(&[0xD83D, 0xDE00]), "\u{1F600}");
+        assert_eq!(
+            shown(&[0xDE00, 0xD83D]),
+            "<i class=u>U+DE00</i><i class=u>U+D83D</i>"
+        );
+        assert_eq!(
+            WordsInPage("<\u{200F}").to_string(),
+            "&lt;<i class=u>U+200F</i>"
+        );
+    }
+
+    /// Every character is itself, a name of one, or a code; none of them opens a tag or ends a quoted attribute.
+    #[test]
+    fn no_character_is_markup() {
+        for code in 0..=0x10FFFF {
+            let Some(character) = char::from_u32(code) else {
+                continue;
+            };
+            let shown = WordsInPage(character.encode_utf8(&mut [0; 4])).to_string();
+            let plain = shown == character.to_string() && !"<>&\"'".contains(character);
+            let named = shown.starts_with('&') && shown.ends_with(';') && !shown.contains('<');
+            let coded = shown == format!("<i class=u>U+{code:04X}</i>");
+            assert!(plain || named || coded, "{shown}");
+        }
     }
 }

@@ -1,9 +1,8 @@
 //! CSV by RFC 4180, cell by cell: a header, and a line for each.
 
-use super::book::{Book, Shown};
-use super::number::Number;
 use super::Listing;
 use crate::address::Address;
+use crate::book::{Book, Number, Shown};
 use crate::text::InCsv;
 use std::io::{self, Write};
 

@@ -1,16 +1,15 @@
 //! A grid for each worksheet, in files of one folder.
 
-use super::book::Book;
 use super::grid::{self, Grid};
 use super::put;
+use crate::book::Book;
+use crate::folder;
 use crate::input::Stream;
 use crate::outcome::Failure;
 use crate::replace::Place;
 use crate::replace::Written;
 use station::Sheet;
 use std::ffi::OsStr;
-use std::fs;
-use std::io::{self, ErrorKind};
 use std::path::Path;
 
 /// How many fields all grids may have together: a small stream can have many sheets with one cell in the last corner each.
@@ -29,7 +28,7 @@ pub fn write(
         )));
     }
     let folder = Path::new(name);
-    make(folder).map_err(|error| Failure::of_file(name, &error))?;
+    folder::make(name)?;
     for (number, sheet) in book.worksheets() {
         let grid = Grid::of(book, &sheet);
         let file = file_name(number, &sheet);
@@ -40,19 +39,9 @@ pub fn write(
     Ok(())
 }
 
-fn make(folder: &Path) -> io::Result<()> {
-    match fs::create_dir(folder) {
-        Err(error) if error.kind() == ErrorKind::AlreadyExists && folder.is_dir() => Ok(()),
-        made => made,
-    }
-}
-
 /// A name for the file of a sheet: no system takes it for anything else, and the number keeps it apart from the others. It isn't too long: a stream that
 /// passes has no sheet's name over 31 characters.
 fn file_name(number: usize, sheet: &Sheet<'_>) -> String {
-    let plain = |character: &char| character.is_alphanumeric() || " -_.".contains(*character);
-    let name: String = char::decode_utf16(sheet.name_units())
-        .map(|character| character.ok().filter(plain).unwrap_or('_'))
-        .collect();
-    format!("{number}-{name}.csv")
+    let name = char::decode_utf16(sheet.name_units()).map(Result::ok);
+    format!("{number}-{}.csv", folder::plain(name))
 }

@@ -1,7 +1,8 @@
 //! A sheet as a CSV with its rows and columns.
 
-use super::book::{Book, Shown};
 use super::csv::write_shown;
+use crate::bits::Bits;
+use crate::book::{Book, Shown};
 use station::{Cell, Sheet};
 use std::io::{self, Write};
 
@@ -16,22 +17,9 @@ pub struct Grid<'b, 'a> {
 /// No row has more columns.
 const COMMAS: [u8; 256] = [b','; 256];
 
-/// A set of addresses, a bit for each. By it a blank is kept only where it covers a value: a stream has room for millions that don't.
-struct Addresses(Vec<u64>);
-
-impl Addresses {
-    fn none() -> Self {
-        Addresses(vec![0; 65_536 * 256 / 64])
-    }
-
-    /// Puts an address in or takes it out, and says whether it was in.
-    fn put(&mut self, row: u16, column: u16, wanted: bool) -> bool {
-        let place = usize::from(row) << 8 | usize::from(column & 0xFF);
-        let (word, bit) = (&mut self.0[place / 64], 1 << (place % 64));
-        let was = *word & bit != 0;
-        *word = if wanted { *word | bit } else { *word & !bit };
-        was
-    }
+/// The number of a cell's address.
+fn address(cell: &Cell) -> usize {
+    usize::from(cell.row()) << 8 | usize::from(cell.column() & 0xFF)
 }
 
 /// How many fields a sheet's grid has at most.
@@ -48,9 +36,10 @@ impl<'b, 'a> Grid<'b, 'a> {
     /// Of several cells at one address the last listed stays.
     pub fn of(book: &'b Book<'a>, sheet: &Sheet<'_>) -> Self {
         let mut cells = Vec::new();
-        let mut values = Addresses::none();
+        // By these addresses a blank is kept only where it covers a value: a stream has room for millions that don't.
+        let mut values = Bits::none(65_536 * 256);
         sheet.cells().for_each(|cell| {
-            let covers = values.put(cell.row(), cell.column(), !cell.is_blank());
+            let covers = values.put(address(&cell), !cell.is_blank());
             if covers || !cell.is_blank() {
                 cells.push(cell);
             }

@@ -1,9 +1,8 @@
 //! JSON: one object with the sheets, and a line for each cell.
 
-use super::book::{Book, Shown};
-use super::number::Number;
 use super::Listing;
 use crate::address::Address;
+use crate::book::{Book, Number, Shown};
 use crate::lines::type_name;
 use crate::text::InJson;
 use station::{Cell, Sheet};

@@ -1,6 +1,6 @@
-//! Axes with round labels, and time in words.
+//! Axes with round labels.
 
-use super::TICKS_PER_SECOND;
+use crate::figures::{grouped, seconds};
 
 /// How many labels there are about, at most.
 const LABELS_OF_TIME: f64 = 10.0;
@@ -95,47 +95,10 @@ impl Unit {
     }
 }
 
-fn seconds(ticks: u64) -> f64 {
-    ticks as f64 / TICKS_PER_SECOND as f64
-}
-
-/// So many ticks, as people say it.
-pub fn duration(ticks: u64) -> String {
-    let seconds = seconds(ticks);
-    let whole = ticks / TICKS_PER_SECOND;
-    match whole {
-        0..60 => format!(
-            "{} s",
-            grouped(seconds, usize::from(seconds.fract() != 0.0))
-        ),
-        60..3_600 => format!("{} min {} s", whole / 60, whole % 60),
-        _ => {
-            let hours = grouped((whole / 3_600) as f64, 0);
-            format!("{hours} h {} min", whole / 60 % 60)
-        }
-    }
-}
-
-/// A number with so many decimals, its thousands apart.
-pub fn grouped(value: f64, decimals: usize) -> String {
-    let plain = format!("{value:.decimals$}");
-    let (whole, rest) = match plain.split_once('.') {
-        Some((whole, rest)) => (whole, format!(".{rest}")),
-        None => (&plain[..], String::new()),
-    };
-    let mut grouped = String::new();
-    for (place, digit) in whole.chars().enumerate() {
-        if place > 0 && (whole.len() - place).is_multiple_of(3) {
-            grouped.push(',');
-        }
-        grouped.push(digit);
-    }
-    grouped + &rest
-}
-
 #[cfg(test)]
 mod tests {
     use super::*;
+    use crate::figures::TICKS_PER_SECOND;
 
     fn labels(axis: &Axis) -> Vec<String> {
         axis.labels().map(|(_, label)| label).collect()
@@ -176,16 +139,5 @@ mod tests {
         let (unit, labels) = of(u32::MAX.into());
         assert_eq!(unit, "days");
         assert!(labels.ends_with(" 40,000 45,000"), "{labels}");
-    }
-
-    #[test]
-    fn durations() {
-        let of = |ticks| duration(ticks);
-        assert_eq!(of(0), "0 s");
-        assert_eq!(of(512), "0.5 s");
-        assert_eq!(of(1_024 * 59), "59 s");
-        assert_eq!(of(1_024 * 60), "1 min 0 s");
-        assert_eq!(of(1_024 * 3_599), "59 min 59 s");
-        assert_eq!(of(1_024 * 3_600 * 1_000), "1,000 h 0 min");
     }
 }

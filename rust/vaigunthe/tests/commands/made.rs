@@ -154,3 +154,13 @@ pub fn session(rows: &[[u64; 3]]) -> Vec<u8> {
     }
     one(&[], records)
 }
+
+/// A formula with this text for its result, and the record that holds it. No text has more than a few thousand units here.
+pub fn formula_text(row: u16, column: u16, text: &[u16]) -> [Vec<u8>; 2] {
+    let result = [0, 0, 0, 0, 0, 0, 0xFF, 0xFF];
+    let rest = [&result[..], &[0; 6], &[3, 0], &[0x1E, 1, 0]].concat();
+    let mut body = (text.len() as u16).to_le_bytes().to_vec();
+    body.push(1);
+    body.extend(wide(text));
+    [cell(0x0006, row, column, &rest), record(0x0207, &body)]
+}

@@ -1,6 +1,7 @@
 //! The command line as a user meets it: the built tool is run over the stored cases and over made streams. What it must print is taken from the
 //! second reader, or written down after document 01.
 
+mod browser;
 mod cadence;
 mod check;
 mod completions;
@@ -17,6 +18,7 @@ mod parse;
 mod picture;
 mod profile;
 mod replace;
+mod report;
 mod sheets;
 mod signals;
 mod strings;

@@ -8,13 +8,14 @@ use std::fs::{self, File};
 use std::io::Read;
 use std::process::{Command, Stdio};
 
-pub const COMMANDS: [&str; 13] = [
+pub const COMMANDS: [&str; 14] = [
     "check",
     "list",
     "sheets",
     "strings",
     "fetch",
     "judge",
+    "report",
     "export",
     "correct",
     "profile",
@@ -231,7 +232,8 @@ fn a_reader_that_has_seen_enough() {
     let folder = Folder::new();
     let file = folder.put("in", &streams::big(streams::Big::Numbers, 3_000_000));
     let ride = folder.put("ride", &made::session(&[[1, 2, 3]; 10_000]));
-    let calls: [&[std::ffi::OsString]; 7] = [
+    let calls: [&[std::ffi::OsString]; 8] = [
+        words!["report", file, "--full"],
         words!["list", file],
         words!["cadence", ride],
         words!["cadence", ride, "--csv"],

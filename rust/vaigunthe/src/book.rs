@@ -1,13 +1,17 @@
 //! A workbook with its strings at hand, and what its cells show.
 
-use super::strings::SharedStrings;
+mod number;
+mod strings;
+
+pub use number::Number;
+
 use crate::errors;
-use crate::input::Stream;
 use crate::wanted::Wanted;
 use dates::{Formats, System};
 use station::{Cell, FormulaResult, Refusal, Sheet, SheetKind, Value, Workbook, LONGEST_STRING};
 use std::borrow::Cow;
 use std::cell::RefCell;
+use strings::SharedStrings;
 
 pub struct Book<'a> {
     stream: &'a [u8],
@@ -57,6 +61,11 @@ impl<'a> Book<'a> {
             only,
             dates: None,
         })
+    }
+
+    /// How many shared strings there are.
+    pub fn strings(&self) -> u32 {
+        self.workbook.strings
     }
 
     /// The sheets that are asked for, with their numbers.
@@ -154,20 +163,18 @@ impl<'a> Book<'a> {
         }
     }
 
-    /// Says where dates hang on a day that the workbook doesn't name, and where there are none for want of it.
-    pub fn tell_system(&self, stream: &Stream<'_>) {
-        let Some(dates) = &self.dates else {
-            return;
-        };
+    /// What there is to say where dates hang on a day that the workbook doesn't name, and where there are none for want of it.
+    pub fn about_dates(&self) -> Option<&'static str> {
+        let dates = self.dates.as_ref()?;
         let mut cells = self.sheets().flat_map(|(_, sheet)| sheet.cells());
         match (Formats::read(self.stream).system(), dates.system()) {
-            (None, None) => stream.note(
+            (None, None) => Some(
                 "the DATEMODE record is damaged, or there are two that disagree: no number is shown as a date",
             ),
             (None, Some(_)) if cells.any(|cell| dates.show_cell(&cell).is_some()) => {
-                stream.note("there is no DATEMODE record: days are counted from 1900");
+                Some("there is no DATEMODE record: days are counted from 1900")
             }
-            _ => {}
+            _ => None,
         }
     }
 }
