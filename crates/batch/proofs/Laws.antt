@@ -8,16 +8,12 @@ use lib.ListN.{length, set, length-set}
 use lib.Seq.{sets}
 use Rattle.reading.specs.declared.Place.{Place}
 use Rattle.reading.specs.Cells.{placeAt}
-use Rattle.value.specs.declared.FormulaResult.{FormulaResult}
 use Rattle.listing.specs.declared.Listed.the-variants as listed
 use Rattle.listing.specs.Listing.{nextOf}
-use Rattle.batch.specs.Batch.{resultWord, wordsOf, Batch, onListed, filled, filledFrom, filledSeen}
+use Rattle.batch.specs.Batch.{wordsOf, Batch, onListed, filled, filledFrom, filledSeen}
 use Rattle.batch.specs.declared.Filled.{Filled}
 
 -- ---- words
-pub result-seen : {r x : FormulaResult} {w : ℕ} → r ≡ x → w ≡ resultWord x → w ≡ resultWord r
-result-seen i h = h ∙ ap resultWord (sym i)
-
 pub in-set : (s : List ℕ) (p x k : ℕ) → k < length s → k < length (set s p x)
 in-set s p x k l = rw (length-set s p x) l
 

@@ -2,12 +2,10 @@
 use Prim.Native.Nat.{ℕ, zero, suc, _+_, _-_, _*_, _≤_, _<_}
 use mathlib.Core.Path.{_≡_, refl, ap, sym, _∙_, subst}
 use mathlib.Core.List.{List}
-use mathlib.Core.Bool.{Bool, true, false}
+use mathlib.Core.Bool.{true}
 use native.Mathlib.Omega.{arith}
 use lib.ListN.{length}
 use lib.Seq.{sets, length-sets}
-use lib.Dec.{ltb}
-use borrow.Author.Tests.{ltb-true, ltb-false}
 use Rattle.walk.specs.Items.{Item, gives, skips, ends}
 use Rattle.walk.proofs.Choice.{pick-eq, pick-ne, pick-any}
 use Rattle.le.specs.Bytes.{u16At}
@@ -16,6 +14,7 @@ use Rattle.record.specs.declared.Header.the-variants.{Record, Cut, End}
 use Rattle.record.specs.Record.{headerAt}
 use Rattle.record.proofs.Laws.{whole}
 use Rattle.value.specs.declared.Field.{Field}
+use Rattle.cell.specs.declared.Shape.{Shape}
 use Rattle.cell.specs.declared.Cell.{Cell}
 use Rattle.cell.specs.Cells.{shapeOf, fieldOf, countOf, cellOf}
 use Rattle.reading.specs.declared.Place.{Place}
@@ -26,10 +25,12 @@ use Rattle.reading.proofs.Laws.{count-small, found-absent}
 use Rattle.listing.specs.declared.Listed.the-variants as listed
 use Rattle.listing.specs.Listing.{nextOf}
 use Rattle.listing.proofs.Laws.{inside, by-found, by-outside, next-past, next-over, past-nearer, next-part}
+use Rattle.batch.specs.declared.Done.{Done}
+use Rattle.batch.specs.declared.Done.the-variants as done
 use Rattle.batch.specs.declared.Advance.{Advance}
 use Rattle.batch.specs.declared.Advance.the-variants as step
 use Rattle.batch.specs.Batch.{wordsOf, onListed, filled}
-use Rattle.batch.specs.Parts.{partsIn, Put, spotIn, Went, pastStep, Stepped}
+use Rattle.batch.specs.Parts.{partsIn, Put, Did, spotIn, Went, pastStep, Stepped}
 use Rattle.batch.proofs.Laws.{Filling}
 
 -- ---- places in the record
@@ -110,28 +111,17 @@ module _ (s : List ℕ) (v : Place) (t z e : ℕ) (head : headerAt s (v .at) ≡
     pub stepped-inside : (v .level ≡ 0 → ⊥) → (r : Advance) → r ≡ pastStep n (otherItem v t e) → Stepped s m v n b b r
     stepped-inside o r j = past (item-is (otherItem v t e) (inside s v t z e (otherItem v t e) o refl)) j
 
-    -- it was looked at, and nothing was put
-    module _ (directly : v .level ≡ 0) {k count last : ℕ} {d : List ℕ} (p : Put s (shapeOf t) (v .at) z (v .part) n k b count last d) where
-      unchanged : last ≤ v .part → d ≡ b
-      unfolding partsIn
-      unchanged l = p .words ∙ (let i : last - v .part ≡ zero = omega arith in ap (λ (j : ℕ). partsIn s (fieldOf (shapeOf t)) (v .at) (v .part) j n b) i)
-
-      none-here : last ≤ v .part → countOf (shapeOf t) s (v .at) z ≤ v .part
-      none-here l = go (ltb (v .part) (countOf (shapeOf t) s (v .at) z)) refl
-        where
-          go : (x : Bool) → ltb (v .part) (countOf (shapeOf t) s (v .at) z) ≡ x → countOf (shapeOf t) s (v .at) z ≤ v .part
-          go true h = let i = ltb-true (v .part) (countOf (shapeOf t) s (v .at) z) h in let c = p .counted in let j = p .some (omega arith) in absurd (omega arith)
-          go false h = ltb-false (v .part) (countOf (shapeOf t) s (v .at) z) h
-
-      pub stepped-none : last ≤ v .part → (r : Advance) → r ≡ pastStep n (otherItem v t e) → Stepped s m v n b d r
-      stepped-none l r j =
-          subst (λ (x : List ℕ). Stepped s m v n b x r) (sym (unchanged l))
-          (past (item-is (otherItem v t e) (by-found s v t z e (otherItem v t e) directly refl (sym (found-absent s (shapeOf t) (v .at) z (v .part) (none-here l))) refl)) j)
+    -- it was looked at
+    module _ (directly : v .level ≡ 0) where
+      none : {d : List ℕ} → countOf (shapeOf t) s (v .at) z ≤ v .part → d ≡ b → {r : Advance} → r ≡ pastStep n (otherItem v t e) → Stepped s m v n b d r
+      none l i {r} j =
+          subst (λ (x : List ℕ). Stepped s m v n b x r) (sym i)
+          (past (item-is (otherItem v t e) (by-found s v t z e (otherItem v t e) directly refl (sym (found-absent s (shapeOf t) (v .at) z (v .part) l)) refl)) j)
 
       -- cells were put
-      module _ (some : v .part < last) where
+      module _ {k count last : ℕ} {d : List ℕ} (p : Put s (shapeOf t) (v .at) z (v .part) n k b count last d) where
         here : v ≡ spotIn (v .at) e (countOf (shapeOf t) s (v .at) z) (v .part)
-        here = let c = p .counted in let i = p .within in (λ j. record { at = v .at; part = v .part; level = directly j }) ∙ spot-before (v .at) e (countOf (shapeOf t) s (v .at) z) (v .part) (omega arith)
+        here = let c = p .counted in let o = p .order in let i = p .within in (λ j. record { at = v .at; part = v .part; level = directly j }) ∙ spot-before (v .at) e (countOf (shapeOf t) s (v .at) z) (v .part) (omega arith)
 
         nearer : remaining s (spotIn (v .at) e count last) < remaining s v
         unfolding remaining spotIn placeAt
@@ -139,13 +129,15 @@ module _ (s : List ℕ) (v : Place) (t z e : ℕ) (head : headerAt s (v .at) ≡
             let w = whole s (v .at) t z e head in
             let f = count-small (shapeOf t) s (v .at) z in
             let c = p .counted in
+            let o = p .order in
             let i = p .within in
             pick-any (λ (x : Place). (length s - x .at) * 257 + (257 - x .part) < (length s - v .at) * 257 + (257 - v .part)) _ (omega arith) (omega arith)
 
-        pub stepped-put : k ≡ m - n → {j : ℕ} {w : Place} → w ≡ spotIn (v .at) e count last → j ≡ last - v .part → Stepped s m v n b d (step.On w (n + j))
-        stepped-put room-is {j} {w} q i =
+        put : k ≡ m - n → {j : ℕ} {w : Place} → w ≡ spotIn (v .at) e count last → j ≡ last - v .part → Stepped s m v n b d (step.On w (n + j))
+        put room-is {j} {w} q i =
             let f = p .fits in
             let c = p .counted in
+            let o = p .order in
             let l = p .within in (
               record {
                 same =
@@ -159,6 +151,23 @@ module _ (s : List ℕ) (v : Place) (t z e : ℕ) (head : headerAt s (v .at) ≡
               rw q nearer,
             )
 
+    -- by what was done with it
+    module _ (directly : v .level ≡ 0) (k : ℕ) (d : List ℕ) (r : Done) (h : Did s (shapeOf t) (v .at) z (v .part) n k b d r) where
+      pub stepped-none : r ≡ done.None → (y : Advance) → y ≡ pastStep n (otherItem v t e) → Stepped s m v n b d y
+      stepped-none i y j = let g = subst (Did s (shapeOf t) (v .at) z (v .part) n k b d) i h in none directly (g .0) (g .1) j
+
+      pub stepped-one : r ≡ done.One → k ≡ m - n → Stepped s m v n b d (step.On (record { at = e; part = 0; level = 0 }) (n + 1))
+      stepped-one i room-is =
+          let g = subst (Did s (shapeOf t) (v .at) z (v .part) n k b d) i h in
+          let first = g .order in
+          put directly g room-is (spot-after (v .at) e 1 1 (omega arith)) (omega arith)
+
+      pub stepped-parts : (count last : ℕ) → r ≡ done.Parts count last → k ≡ m - n → {j : ℕ} {w : Place} → w ≡ spotIn (v .at) e count last → j ≡ last - v .part → Stepped s m v n b d (step.On w (n + j))
+      stepped-parts count last i room-is q f = put directly (subst (Did s (shapeOf t) (v .at) z (v .part) n k b d) i h) room-is q f
+
+pub parts-order : (s : List ℕ) (h : Shape) (at z k n room : ℕ) (b d : List ℕ) (r : Done) (count last : ℕ) → Did s h at z k n room b d r → r ≡ done.Parts count last → k ≤ last
+parts-order s h at z k n room b d r count last p i = let g = subst (Did s h at z k n room b d) i p in let l = g .order in omega arith
+
 -- ---- a record's size, as its header has it
 module _ (s : List ℕ) (at k z e : ℕ) (head : headerAt s at ≡ Record k z e) where
   pub size-there : z ≡ u16At s (at + 2)
@@ -169,7 +178,7 @@ module _ (s : List ℕ) (at k z e : ℕ) (head : headerAt s at ≡ Record k z e)
 
 pub ruleset size-laws = (size-there, size-small)
 
-pub ruleset step-laws = (stepped-inside, stepped-none, stepped-put)
+pub ruleset step-laws = (stepped-inside, stepped-none, stepped-one, stepped-parts)
 
 module _ (s : List ℕ) (v : Place) (m n : ℕ) (b : List ℕ) {r : Header} (is : r ≡ headerAt s (v .at)) where
   pub stepped-cut : r ≡ Cut → Stepped s m v n b b step.End

@@ -1,33 +1,56 @@
 -- What a value field says, in words, and a cell's four words. Assumes nothing.
 use Prim.Native.Nat.{ℕ, _+_, _*_, _%_, _/_, _^_, _<_}
 use mathlib.Core.Path.{_≡_, refl, ap, sym, _∙_}
+use mathlib.Core.Bool.{Bool, true, false}
 use mathlib.Core.List.{List, [], _∷_}
 use native.Mathlib.Omega.{arith}
 use lib.ListN.{length}
 use lib.Seq.{sets}
 use Rattle.walk.specs.Choice.{pick}
+use lib.Ieee.{binary64, ofBits}
 use Rattle.walk.proofs.Choice.{pick-eq, pick-ne, pick-any, pick-by}
 use Rattle.le.specs.Bytes.{u16At, numAt}
 use Rattle.number.specs.Float64.{isNanBits}
-use Rattle.number.proofs.Laws.{bits-of-float}
+use Rattle.number.proofs.Laws.{bits-of-float, rk-bits-lt, rk-bits-number, rk-number, rk-nothing, nothing-told}
 use Rattle.number.specs.declared.Rk.{Rk}
-use Rattle.number.specs.Rk.{rkOf}
+use Rattle.number.specs.declared.Rk.the-variants.{Number, Nothing}
+use Rattle.number.specs.Rk.{rkBits, meansNothing, rkOf}
 use Rattle.value.specs.declared.Field.{Field}
-use Rattle.value.specs.declared.Field.the-variants.{NoField, Float, RkWord, TruthError}
+use Rattle.value.specs.declared.Field.the-variants.{NoField, Float, RkWord, TruthError, StoredResult}
 use Rattle.value.specs.declared.CellValue.{CellValue}
 use Rattle.value.specs.declared.CellValue.the-variants.{Truth, Error}
-use Rattle.value.specs.Value.{widthOf, floatValue, rkValue, truthError, valueOf}
+use Rattle.value.specs.declared.FormulaResult.{FormulaResult}
+use Rattle.value.specs.Value.{widthOf, floatValue, rkValue, truthError, resultNumber, markedResult, resultOf, valueOf}
+use Rattle.value.proofs.Laws.{number-is, marked-is}
 use Rattle.cell.specs.Cells.{partOf, startOf, rowAt, firstAt, fieldAt, tokensAt, cellFrom, cellOf}
 use Rattle.reading.specs.Reading.{trailingSize}
-use Rattle.batch.specs.Batch.{valueKind, valueWord, sizesWord, wordsOf}
+use Rattle.batch.specs.Batch.{resultKind, resultWord, valueKind, valueWord, sizesWord, wordsOf}
 
 -- ---- what a value field says, in words
-module _ (word : ℕ) {r x : Rk} (i : r ≡ rkOf word) (j : r ≡ x) where
-  pub rk-kind-is : {k : ℕ} → k ≡ valueKind (rkValue x) → k ≡ valueKind (valueOf RkWord word)
-  rk-kind-is h = h ∙ ap (λ (y : Rk). valueKind (rkValue y)) (sym j ∙ i)
+module _ (word : ℕ) (t : Bool) (h : t ≡ meansNothing word) where
+  module _ (e : t ≡ true) where
+    nothing : Nothing ≡ rkOf word
+    nothing = sym (rk-nothing word (sym h ∙ e))
 
-  pub rk-word-is : {k : ℕ} → k ≡ valueWord (rkValue x) → k ≡ valueWord (valueOf RkWord word)
-  rk-word-is h = h ∙ ap (λ (y : Rk). valueWord (rkValue y)) (sym j ∙ i)
+    pub nothing-kind : 0 ≡ valueKind (valueOf RkWord word)
+    nothing-kind = ap (λ (y : Rk). valueKind (rkValue y)) nothing
+
+    pub nothing-word : 0 ≡ valueWord (valueOf RkWord word)
+    nothing-word = ap (λ (y : Rk). valueWord (rkValue y)) nothing
+
+  module _ (e : t ≡ false) where
+    number : Number (ofBits binary64 (rkBits word)) ≡ rkOf word
+    number = sym (rk-number word (sym h ∙ e))
+
+    pub number-kind : 1 ≡ valueKind (valueOf RkWord word)
+    number-kind = ap (λ (y : Rk). valueKind (rkValue y)) number
+
+    pub number-word : word < 2 ^ 32 → {b : ℕ} → b ≡ rkBits word → b ≡ valueWord (valueOf RkWord word)
+    number-word f i =
+        let m = sym h ∙ e in
+        i ∙ sym (bits-of-float (rkBits word) (rk-bits-lt word f m) (rk-bits-number word f m)) ∙ ap (λ (y : Rk). valueWord (rkValue y)) number
+
+pub ruleset rk-laws = (nothing-kind, nothing-word, number-kind, number-word, nothing-told)
 
 pub float-kind : (b : ℕ) → 1 ≡ valueKind (valueOf Float b)
 unfolding floatValue
@@ -56,6 +79,23 @@ module _ (n : ℕ) where
   error-word e = ap valueWord (pick-ne (Error (n % 256)) _ _ (n / 256) 0 e refl)
 
 pub ruleset byte-laws = (truth-kind, truth-word, error-kind, error-word)
+
+-- a formula's result: a number's bits as they stand, or marked
+module _ (n : ℕ) where
+  module _ (plain : n / 281474976710656 ≡ 65535 → ⊥) where
+    pub plain-kind : 5 ≡ valueKind (valueOf StoredResult n)
+    unfolding resultNumber
+    plain-kind = pick-any (λ (r : FormulaResult). 5 ≡ resultKind r) (isNanBits n) refl refl ∙ ap resultKind (number-is n plain (resultNumber n) refl)
+
+    pub plain-word : n < 2 ^ 64 → n ≡ valueWord (valueOf StoredResult n)
+    unfolding resultNumber
+    plain-word h =
+        pick-by (λ (r : FormulaResult). n ≡ resultWord r) (isNanBits n) (λ _. refl) (λ e. sym (bits-of-float n h e)) ∙ ap resultWord (number-is n plain (resultNumber n) refl)
+
+  pub marked-said : n / 281474976710656 ≡ 65535 → (r : FormulaResult) → r ≡ markedResult (n % 256) (n / 65536 % 256) → (resultKind r ≡ valueKind (valueOf StoredResult n)) × (resultWord r ≡ valueWord (valueOf StoredResult n))
+  marked-said marked r is = let e = marked-is n (n % 256) refl (n / 65536 % 256) refl marked r is in (ap resultKind e, ap resultWord e)
+
+pub ruleset plain-laws = (plain-kind, plain-word)
 
 -- ---- a cell's four words, from what was read of it
 module _ (s : List ℕ) (f : Field) (n : ℕ) (b : List ℕ) where

@@ -15,6 +15,8 @@ use Rattle.cell.specs.Cells.{fieldOf, partOf, countOf, cellOf}
 use Rattle.listing.specs.declared.Listed.the-variants as listed
 use Rattle.listing.specs.Listing.{nextOf}
 use Rattle.batch.specs.declared.Said.{Said}
+use Rattle.batch.specs.declared.Done.{Done}
+use Rattle.batch.specs.declared.Done.the-variants as done
 use Rattle.batch.specs.declared.Advance.{Advance}
 use Rattle.batch.specs.declared.Advance.the-variants as step
 use Rattle.reading.specs.declared.Place.{Place}
@@ -38,13 +40,19 @@ PartRoom s f at k b n = (at + 8 + k * partOf f + partOf f ≤ length s) × (u16A
 abbrev pub PartsRoom : List ℕ → Field → ℕ → ℕ → ℕ → List ℕ → ℕ → Type 0
 PartsRoom s f at k last b n = (k ≤ last) × (at + 8 + last * partOf f ≤ length s) × (u16At s (at + 6) + last ≤ 256) × (4 * (n + (last - k)) ≤ length b)
 
--- a record's cells were put into b, after the n that it has, from the k-th on up to the last-th: some if it has some there and there is room
+-- a record's cells were put into b, after the n that it has, from the k-th on up to the last-th, at least one
 pub record Put (s : List ℕ) (h : Shape) (at z k n room : ℕ) (b : List ℕ) (count last : ℕ) (d : List ℕ) : Type 0 where
   pub counted : count ≡ countOf h s at z
+  pub order : k < last
   pub within : last ≤ count
-  pub some : k < count → k < last
   pub fits : last - k ≤ room
   pub words : d ≡ partsIn s (fieldOf h) at k (last - k) n b
+
+-- what was done with a record: its one cell was put, or of its parts those up to the last-th, or it has none from the k-th on
+abbrev pub Did : List ℕ → Shape → ℕ → ℕ → ℕ → ℕ → ℕ → List ℕ → List ℕ → Done → Type 0
+Did s h at z k n room b d done.One = Put s h at z k n room b 1 1 d
+Did s h at z k n room b d (done.Parts count last) = Put s h at z k n room b count last d
+Did s h at z k n room b d done.None = (countOf h s at z ≤ k) × (d ≡ b)
 
 -- the k-th of the count cells of the record at `at`; after them the next record, at e
 unfoldable pub spotIn : ℕ → ℕ → ℕ → ℕ → Place

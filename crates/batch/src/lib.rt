@@ -1,5 +1,6 @@
 // Cells in words, four a cell, as many at a time as a lent slice has room for: for those who take a listing across a border.
 ghost use mathlib.Core.Path.{_≡_};
+ghost use mathlib.Core.Logic.{_⊎_};
 ghost use Prim.Native.Nat.{_+_, _-_, _*_, _≤_, _<_};
 ghost use lib.ListN.{length};
 ghost use Rattle.le.specs.Bytes.{u16At};
@@ -7,17 +8,15 @@ ghost use Rattle.record.specs.Record.{headerAt};
 ghost use Rattle.value.specs.Value.{valueOf};
 ghost use Rattle.cell.specs.Cells.{shapeOf, fieldOf, countOf, cellOf};
 ghost use Rattle.reading.specs.Cells.{otherItem};
-ghost use Rattle.batch.specs.Parts.{oneWords, partsIn, PartRoom, PartsRoom, Put, spotIn, pastStep, Stepped};
-ghost use Rattle.batch.specs.Batch.{resultKind, valueKind, resultWord, valueWord, wordsOf, filledSeen, filledFrom};
+ghost use Rattle.batch.specs.Parts.{oneWords, partsIn, PartRoom, PartsRoom, Did, spotIn, pastStep, Stepped};
+ghost use Rattle.batch.specs.Batch.{valueKind, valueWord, wordsOf, filledSeen, filledFrom};
 ghost use lib.Seq.{sets};
 ghost use mathlib.Core.List.{[], _∷_};
 use cell::Shape;
-use number::Rk;
 use reading::Outside;
 use reading::Place;
 use record::Header;
 use value::Field;
-use value::FormulaResult;
 
 // How many cells were written; whether the list ended, or where it goes on.
 pub struct Filled {
@@ -51,12 +50,25 @@ fn float_said(bits: u64) -> Said
 fn rk_said(word: u32) -> Said
     ensures { λ x. ⌜ (x .kind ≡ valueKind (valueOf Field.RkWord word)) × (x .word ≡ valueWord (valueOf Field.RkWord word)) ⌝ }
 {
-    match number::decode(word) {
-        Rk::Number(x) => Said {
-            kind: 1,
-            word: number::bits_of(x),
-        },
-        Rk::Nothing => Said { kind: 0, word: 0 },
+    if number::means_nothing(word) {
+        return Said { kind: 0, word: 0 };
+    }
+    Said {
+        kind: 1,
+        word: number::rk_bits(word),
+    }
+}
+
+// The same for a record of one cell.
+fn lone_rk_said(word: u32) -> Said
+    ensures { λ x. ⌜ (x .kind ≡ valueKind (valueOf Field.RkWord word)) × (x .word ≡ valueWord (valueOf Field.RkWord word)) ⌝ }
+{
+    if number::means_nothing(word) {
+        return Said { kind: 0, word: 0 };
+    }
+    Said {
+        kind: 1,
+        word: number::lone_rk_bits(word),
     }
 }
 
@@ -84,28 +96,23 @@ fn truth_error_said(n: u16) -> Said
     }
 }
 
-fn result_said(r: FormulaResult) -> Said
-    ensures { λ x. ⌜ (x .kind ≡ resultKind r) × (x .word ≡ resultWord r) ⌝ }
+fn result_said(n: u64) -> Said
+    ensures { λ x. ⌜ (x .kind ≡ valueKind (valueOf Field.StoredResult n)) × (x .word ≡ valueWord (valueOf Field.StoredResult n)) ⌝ }
 {
-    match r {
-        FormulaResult::Number(x) => Said {
-            kind: 5,
-            word: number::bits_of(x),
-        },
-        FormulaResult::NotNumber(bits) => Said {
-            kind: 5,
-            word: bits,
-        },
-        FormulaResult::Text => Said { kind: 6, word: 0 },
-        FormulaResult::Truth(truth) => Said {
+    if n >> 48 != 0xFFFF {
+        return Said { kind: 5, word: n };
+    }
+    match n % 256 {
+        0 => Said { kind: 6, word: 0 },
+        1 => Said {
             kind: 7,
-            word: le::byte_as_u64(truth),
+            word: (n >> 16) % 256,
         },
-        FormulaResult::Error(code) => Said {
+        2 => Said {
             kind: 8,
-            word: le::byte_as_u64(code),
+            word: (n >> 16) % 256,
         },
-        FormulaResult::Empty => Said { kind: 9, word: 0 },
+        _ => Said { kind: 9, word: 0 },
     }
 }
 
@@ -144,82 +151,93 @@ fn put_one(s: &[u8], at: usize, said: Said, field: usize, sizes: u64, words: &mu
     put_four(words, 4 * n, head, said.word, field as u64, sizes);
 }
 
-// ---- the records of one cell: how many cells there are, and up to which they have been written, from the k-th on
+// ---- the records of one cell
 
-struct Done {
-    count: u16,
-    last: u16,
+// What was written of a record, from the k-th cell on: its one cell, the first; of a multiple record's `count` cells those up to the last-th; or none,
+// where it has none from there on. The one cell has its own name so that what follows on it needs no counting.
+enum Done {
+    One,
+    Parts { count: u16, last: u16 },
+    None,
 }
 
 fn put_blank_cell(s: &[u8], at: usize, size: usize, k: u16, words: &mut [u64], n: usize) -> Done
     requires { ⌜ (at + 4 + size ≤ length (now s)) × (4 * n + 4 ≤ length (now words)) ⌝ }
-    ensures { λ r. ⌜ Put (now (s .entry)) Shape.BLANK at size k n 1 (now (words .entry)) (r .count) (r .last) (now (words .exit)) ⌝ }
+    ensures { λ r. ⌜ Did (now (s .entry)) Shape.BLANK at size k n 1 (now (words .entry)) (now (words .exit)) r ⌝ }
 {
     if size != 6 {
-        return Done { count: 0, last: 0 };
+        return Done::None;
     }
     if k != 0 {
-        return Done { count: 1, last: 1 };
+        return Done::None;
     }
     let q = at + 8;
     put_one(s, at, nothing_said(), q, 0, words, n);
-    Done { count: 1, last: 1 }
+    Done::One
 }
 
 fn put_number(s: &[u8], at: usize, size: usize, k: u16, words: &mut [u64], n: usize) -> Done
     requires { ⌜ (at + 4 + size ≤ length (now s)) × (4 * n + 4 ≤ length (now words)) ⌝ }
-    ensures { λ r. ⌜ Put (now (s .entry)) Shape.NUMBER at size k n 1 (now (words .entry)) (r .count) (r .last) (now (words .exit)) ⌝ }
+    ensures { λ r. ⌜ Did (now (s .entry)) Shape.NUMBER at size k n 1 (now (words .entry)) (now (words .exit)) r ⌝ }
 {
     if size != 14 {
-        return Done { count: 0, last: 0 };
+        return Done::None;
     }
     if k != 0 {
-        return Done { count: 1, last: 1 };
+        return Done::None;
     }
     let q = at + 8;
     put_one(s, at, float_said(le::u64_at(s, q + 2)), q + 2, 0, words, n);
-    Done { count: 1, last: 1 }
+    Done::One
 }
 
 fn put_rk_cell(s: &[u8], at: usize, size: usize, k: u16, words: &mut [u64], n: usize) -> Done
     requires { ⌜ (at + 4 + size ≤ length (now s)) × (4 * n + 4 ≤ length (now words)) ⌝ }
-    ensures { λ r. ⌜ Put (now (s .entry)) Shape.RK at size k n 1 (now (words .entry)) (r .count) (r .last) (now (words .exit)) ⌝ }
+    ensures { λ r. ⌜ Did (now (s .entry)) Shape.RK at size k n 1 (now (words .entry)) (now (words .exit)) r ⌝ }
 {
     if size != 10 {
-        return Done { count: 0, last: 0 };
+        return Done::None;
     }
     if k != 0 {
-        return Done { count: 1, last: 1 };
+        return Done::None;
     }
     let q = at + 8;
-    put_one(s, at, rk_said(le::u32_at(s, q + 2)), q + 2, 0, words, n);
-    Done { count: 1, last: 1 }
+    put_one(
+        s,
+        at,
+        lone_rk_said(le::u32_at(s, q + 2)),
+        q + 2,
+        0,
+        words,
+        n,
+    );
+    Done::One
 }
 
 fn put_text(s: &[u8], at: usize, size: usize, k: u16, words: &mut [u64], n: usize) -> Done
     requires { ⌜ (at + 4 + size ≤ length (now s)) × (4 * n + 4 ≤ length (now words)) ⌝ }
-    ensures { λ r. ⌜ Put (now (s .entry)) Shape.LABELSST at size k n 1 (now (words .entry)) (r .count) (r .last) (now (words .exit)) ⌝ }
+    ensures { λ r. ⌜ Did (now (s .entry)) Shape.LABELSST at size k n 1 (now (words .entry)) (now (words .exit)) r ⌝ }
 {
     if size != 10 {
-        return Done { count: 0, last: 0 };
+        return Done::None;
     }
     if k != 0 {
-        return Done { count: 1, last: 1 };
+        return Done::None;
     }
     let q = at + 8;
     put_one(s, at, text_said(le::u32_at(s, q + 2)), q + 2, 0, words, n);
-    Done { count: 1, last: 1 }
+    Done::One
 }
 
 fn put_truth_error(s: &[u8], at: usize, size: usize, k: u16, words: &mut [u64], n: usize) -> Done
     requires { ⌜ (at + 4 + size ≤ length (now s)) × (4 * n + 4 ≤ length (now words)) ⌝ }
-    ensures { λ r. ⌜ Put (now (s .entry)) Shape.BOOLERR at size k n 1 (now (words .entry)) (r .count) (r .last) (now (words .exit)) ⌝ }
+    ensures { λ r. ⌜ Did (now (s .entry)) Shape.BOOLERR at size k n 1 (now (words .entry)) (now (words .exit)) r ⌝ }
 {
     if size != 8 {
-        return Done { count: 0, last: 0 };
+        return Done::None;
     }
     if k != 0 {
-        return Done { count: 1, last: 1 };
+        return Done::None;
     }
     let q = at + 8;
     put_one(
@@ -231,7 +249,7 @@ fn put_truth_error(s: &[u8], at: usize, size: usize, k: u16, words: &mut [u64], 
         words,
         n,
     );
-    Done { count: 1, last: 1 }
+    Done::One
 }
 
 // How many token bytes a formula's record of `size` bytes has, and 16 bits up how many come after them.
@@ -245,22 +263,22 @@ fn formula_sizes(size: usize, tokens: u16) -> u64
 
 fn put_formula(s: &[u8], at: usize, size: usize, k: u16, words: &mut [u64], n: usize) -> Done
     requires { ⌜ (at + 4 + size ≤ length (now s)) × (4 * n + 4 ≤ length (now words)) × (size ≡ u16At (now s) (at + 2)) × (size ≤ 8224) ⌝ }
-    ensures { λ r. ⌜ Put (now (s .entry)) Shape.FORMULA at size k n 1 (now (words .entry)) (r .count) (r .last) (now (words .exit)) ⌝ }
+    ensures { λ r. ⌜ Did (now (s .entry)) Shape.FORMULA at size k n 1 (now (words .entry)) (now (words .exit)) r ⌝ }
 {
     if size < 22 {
-        return Done { count: 0, last: 0 };
+        return Done::None;
     }
     let q = at + 8;
     let length = le::u16_at(s, q + 16);
     if size < 22 + le::u16_as_usize(length) {
-        return Done { count: 0, last: 0 };
+        return Done::None;
     }
     if k != 0 {
-        return Done { count: 1, last: 1 };
+        return Done::None;
     }
-    let said = result_said(value::result_value(le::u64_at(s, q + 2)));
+    let said = result_said(le::u64_at(s, q + 2));
     put_one(s, at, said, q + 2, formula_sizes(size, length), words, n);
-    Done { count: 1, last: 1 }
+    Done::One
 }
 
 // ---- the cells of a multiple record, whose header is at `at`: they stand in one row and are written by one loop
@@ -338,15 +356,15 @@ fn put_many_rk(
     room: usize,
 ) -> Done
     requires { ⌜ (at + 4 + size ≤ length (now s)) × (0 < room) × (4 * (n + room) ≤ length (now words)) ⌝ }
-    ensures { λ r. ⌜ Put (now (s .entry)) Shape.MULRK at size k n room (now (words .entry)) (r .count) (r .last) (now (words .exit)) ⌝ }
+    ensures { λ r. ⌜ Did (now (s .entry)) Shape.MULRK at size k n room (now (words .entry)) (now (words .exit)) r ⌝ }
 {
     let count = cell::multiple(s, at, size, 6);
     if count <= k {
-        return Done { count, last: 0 };
+        return Done::None;
     }
     let last = last_part(k, count, room);
     rk_parts(s, at, k, last, words, n);
-    Done { count, last }
+    Done::Parts { count, last }
 }
 
 fn put_many_blanks(
@@ -359,15 +377,15 @@ fn put_many_blanks(
     room: usize,
 ) -> Done
     requires { ⌜ (at + 4 + size ≤ length (now s)) × (0 < room) × (4 * (n + room) ≤ length (now words)) ⌝ }
-    ensures { λ r. ⌜ Put (now (s .entry)) Shape.MULBLANK at size k n room (now (words .entry)) (r .count) (r .last) (now (words .exit)) ⌝ }
+    ensures { λ r. ⌜ Did (now (s .entry)) Shape.MULBLANK at size k n room (now (words .entry)) (now (words .exit)) r ⌝ }
 {
     let count = cell::multiple(s, at, size, 2);
     if count <= k {
-        return Done { count, last: 0 };
+        return Done::None;
     }
     let last = last_part(k, count, room);
     blank_parts(s, at, k, last, words, n);
-    Done { count, last }
+    Done::Parts { count, last }
 }
 
 // ---- any record: one choice by its type, for all that is done with it
@@ -383,7 +401,7 @@ fn put_record(
     room: usize,
 ) -> Done
     requires { ⌜ (at + 4 + size ≤ length (now s)) × (0 < room) × (4 * (n + room) ≤ length (now words)) × (size ≡ u16At (now s) (at + 2)) × (size ≤ 8224) ⌝ }
-    ensures { λ r. ⌜ Put (now (s .entry)) (shapeOf kind) at size k n room (now (words .entry)) (r .count) (r .last) (now (words .exit)) ⌝ }
+    ensures { λ r. ⌜ Did (now (s .entry)) (shapeOf kind) at size k n room (now (words .entry)) (now (words .exit)) r ⌝ }
 {
     match kind {
         0x0201 => put_blank_cell(s, at, size, k, words, n),
@@ -394,7 +412,7 @@ fn put_record(
         0x00BD => put_many_rk(s, at, size, k, words, n, room),
         0x00BE => put_many_blanks(s, at, size, k, words, n, room),
         0x0006 => put_formula(s, at, size, k, words, n),
-        _ => Done { count: 0, last: 0 },
+        _ => Done::None,
     }
 }
 
@@ -453,14 +471,20 @@ fn step_record(
     }
     let at = v.at;
     let k = v.part;
-    let done = put_record(s, at, kind, size, k, words, n, room - n);
-    let last = done.last;
-    if last <= k {
-        return step_past(v, kind, end, n);
-    }
-    Advance::On {
-        place: spot(at, end, done.count, last),
-        cells: n + le::u16_as_usize(last - k),
+    match put_record(s, at, kind, size, k, words, n, room - n) {
+        Done::One => Advance::On {
+            place: Place {
+                at: end,
+                part: 0,
+                level: 0,
+            },
+            cells: n + 1,
+        },
+        Done::Parts { count, last } => Advance::On {
+            place: spot(at, end, count, last),
+            cells: n + le::u16_as_usize(last - k),
+        },
+        Done::None => step_past(v, kind, end, n),
     }
 }
 

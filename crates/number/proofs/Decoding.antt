@@ -1,21 +1,20 @@
 -- What the code computes of an RK word is what the word means. Assumes nothing.
 use mathlib.Core.Path.{_≡_, refl, sym, ap, _∙_}
 use mathlib.Core.Bool.{Bool, true, false, not, _&&_, cond}
-use mathlib.Core.List.{[], _∷_}
 use Prim.Native.Nat.{ℕ, zero, suc, _+_, _-_, _*_, _/_, _%_, _^_, _≤_, _<_}
-use native.Mathlib.Nat.{lt-of-le-of-lt, mod-eq-of-lt, mul-one, mul-comm, mul-assoc, mul-right-comm, mul-pos, mul-le-mul-right, div-le-self, add-zero}
+use native.Mathlib.Nat.{lt-of-le-of-lt, mod-eq-of-lt, mul-one, mul-comm, mul-assoc, mul-right-comm, mul-pos, mul-le-mul-right, div-le-self, add-mul, eq-of-mul-eq-mul-right}
 use native.Mathlib.Omega.{arith}
 use lib.IntN.{ℤ, pos, negsuc, _-ℤ_}
-use lib.ListN.{getD}
 use lib.Arith.{digits-mod}
-use lib.Bits.{bitAnd, and-mask, and-high, and-block}
-use lib.Pow.{split}
+use lib.Bits.{bitAnd, bitXor, and-mask, and-high, and-block, xor-add-and}
+use lib.Pow.{split, pow-pos}
 use lib.Dec.{T, leb, eqb, lit<}
-use lib.Ieee.{Float, nan, fin, binary64, up, down, round, div, ofInt, ofBits, nanBits, unlike}
+use lib.Ieee.{Float, fin, binary64, up, down, round, sum, add, sub, neg, div, ofInt, ofBits, toBits, isNan, nanBits, unlike}
 use lib.Ieee.Fits.{down-pos}
+use lib.Ieee.Bits.{toBits-ofBits}
 use lib.Ieee.Exact.{HasValue}
 use lib.Ieee.Back.{round-whole}
-use borrow.Author.Tests.{lt-ltb, eq-eqb, ne-eqb, eqb-true, eqb-false, leb-true, leb-false}
+use borrow.Author.Tests.{lt-ltb, le-ltb, lt-leb, eq-eqb, ne-eqb, eqb-true, eqb-false, leb-true, leb-false}
 use mir.Syntax.{w32}
 use mir.Val.{SFits, toZ, ofZ}
 use mir.ValLaws.{toZ-pos, toZ-ofZ}
@@ -25,8 +24,8 @@ use Rattle.number.specs.Float64.{isNanBits, floatSign, floatSize}
 use Rattle.number.specs.Rk.{isWhole, wholeSign, wholeSize, floatBits, rkSign, rkSize, quotientBits, isDivided, rkBits, meansNothing, rkOf}
 use Rattle.number.specs.Rounding.{rounded, signed}
 use Rattle.number.specs.declared.Rk.the-variants.{Number, Nothing}
-use Rattle.number.proofs.Rounding.{round-of}
-use Rattle.number.proofs.Float64.{pattern-number}
+use Rattle.number.proofs.Rounding.{round-of, rounded-lt, rounded-number}
+use Rattle.number.proofs.Float64.{nan-float, not-T, pattern-number}
 use Rattle.number.proofs.Units.{Finite, finite-value, finite-number, finite-hundredth, size-rounded}
 
 -- ---- the masks
@@ -54,30 +53,49 @@ masked-nothing w = ap (λ (n : ℕ). eqb n (2047 * 2 ^ 20)) (nothing-mask w) ∙
 pub nothing-told : (w : ℕ) (t v : Bool) → t ≡ meansNothing w → t ≡ v → meansNothing w ≡ v
 nothing-told w t v h e = sym h ∙ e
 
--- one of two, picked by a bit
-pub one-of-two : {A : Type 0} (a b d : A) (n : ℕ) → n < 2 → getD (a ∷ b ∷ []) n d ≡ pick (eqb n 1) b a
-unfolding pick
-one-of-two a b d zero h = refl
-one-of-two a b d (suc zero) h = refl
-one-of-two a b d (suc (suc n)) h = absurd (omega arith)
+-- ---- a whole number, exact as an f64
+
+pub size-le : (v : ℕ) → v < 2 ^ 30 → wholeSize v ≤ 2 ^ 53
+size-le v h = pick-any (λ (m : ℕ). m ≤ 2 ^ 53) (wholeSign v) (omega arith) (omega arith)
+
+pub whole-lt : (m : ℕ) → m ≤ 2 ^ 53 → m * 2 ^ 1074 < 2 ^ 2097
+whole-lt m h = lt-of-le-of-lt (mul-le-mul-right (2 ^ 1074) h) (lit< {m = 2 ^ 53 * 2 ^ 1074} {n = 2 ^ 2097} tt)
+
+in-units : (x : Float) (s : Bool) (m : ℕ) → HasValue x s m 1 → HasValue x s (m * 2 ^ 1074) (2 ^ 1074)
+in-units (fin t k e) s m v = (v .0, ap (λ (y : ℕ). y * 2 ^ 1074) (sym (mul-one (k * up e)) ∙ v .1) ∙ mul-right-comm m (down e) (2 ^ 1074))
+
+pub whole-rounded : (s : Bool) (m : ℕ) → m ≤ 2 ^ 53 → round binary64 s m 1 ≡ ofBits binary64 (signed s (rounded (m * 2 ^ 1074) 1))
+whole-rounded s m h = round-of s m 1 (m * 2 ^ 1074) 1 (lit< tt) (lit< tt) refl (lt-of-le-of-lt (div-le-self (m * 2 ^ 1074) 1) (whole-lt m h))
 
 -- ---- the signed whole number of 30 bits
 
--- the difference that the code takes
+-- with the uppermost bit turned around, 2 ^ 29 above what it counts
+turned : (v : ℕ) → v < 2 ^ 30 → bitXor v 536870912 + v / 2 ^ 29 * 2 ^ 30 ≡ v + 2 ^ 29
+turned v h = let a = xor-add-and v 536870912 in let b = and-high v 1 29 in omega arith
+
+pub turned-lt : (v : ℕ) → v < 2 ^ 30 → bitXor v 536870912 < 2 ^ 30
+turned-lt v h = omega (arith, turned v h)
+
+pub turned-small : (v : ℕ) → v < 2 ^ 30 → bitXor v 536870912 < 2147483648
+turned-small v h = omega (arith, turned-lt v h)
+
+-- converted: the difference that the code takes
 difference : ℕ → ℤ
-difference v = toZ w32 v -ℤ toZ w32 (v / 536870912 * 1073741824 % 4294967296)
+difference v = toZ w32 (bitXor v 536870912) -ℤ pos 536870912
 
 difference-low : (v : ℕ) → v < 2 ^ 29 → difference v ≡ pos v
 unfolding difference
 difference-low v h =
-    let zero-is : v / 536870912 * 1073741824 % 4294967296 ≡ 0 = omega arith in
-    rw (zero-is, toZ-pos w32 v (omega arith)) (ap pos (add-zero v))
+    let up : bitXor v 536870912 ≡ v + 2 ^ 29 = omega (arith, turned v (omega arith)) in
+    let back : v + 2 ^ 29 - 2 ^ 29 ≡ v = omega arith in
+    rw (up, toZ-pos w32 (v + 2 ^ 29) (omega arith)) (ap (λ (b : Bool). cond b (negsuc (2 ^ 29 - suc (v + 2 ^ 29))) (pos (v + 2 ^ 29 - 2 ^ 29))) (le-ltb (v + 2 ^ 29) (2 ^ 29) (omega arith)) ∙ ap pos back)
 
 difference-high : (v : ℕ) → 2 ^ 29 ≤ v → v < 2 ^ 30 → difference v ≡ negsuc (2 ^ 30 - suc v)
 unfolding difference
 difference-high v l h =
-    let top-is : v / 536870912 * 1073741824 % 4294967296 ≡ 2 ^ 30 = omega arith in
-    rw (top-is, toZ-pos w32 v (omega arith)) (ap (λ (b : Bool). cond b (negsuc (2 ^ 30 - suc v)) (pos (v - 2 ^ 30))) (lt-ltb v (2 ^ 30) h))
+    let down : bitXor v 536870912 ≡ v - 2 ^ 29 = omega (arith, turned v h) in
+    let back : 2 ^ 29 - suc (v - 2 ^ 29) ≡ 2 ^ 30 - suc v = omega arith in
+    rw (down, toZ-pos w32 (v - 2 ^ 29) (omega arith)) (ap (λ (b : Bool). cond b (negsuc (2 ^ 29 - suc (v - 2 ^ 29))) (pos (v - 2 ^ 29 - 2 ^ 29))) (lt-ltb (v - 2 ^ 29) (2 ^ 29) (omega arith)) ∙ ap negsuc back)
 
 -- by the test of the sign
 by-sign : (v : ℕ) → v < 2 ^ 30 → (P : ℤ → Bool → ℕ → Type 0) → (v < 2 ^ 29 → P (pos v) false v) → (2 ^ 29 ≤ v → P (negsuc (2 ^ 30 - suc v)) true (2 ^ 30 - v)) → P (difference v) (wholeSign v) (wholeSize v)
@@ -88,18 +106,86 @@ by-sign v h P low high = go (leb (2 ^ 29) v) refl
     go false e = let l = leb-false (2 ^ 29) v e in rw (difference-low v l) (low l)
     go true e = let l = leb-true (2 ^ 29) v e in rw (difference-high v l h) (high l)
 
-pub whole-fits : (v : ℕ) → v < 2 ^ 30 → SFits w32 (toZ w32 v -ℤ toZ w32 (v / 536870912 * 1073741824 % 4294967296))
+pub converted-fits : (v : ℕ) → v < 2 ^ 30 → SFits w32 (toZ w32 (bitXor v 536870912) -ℤ pos 536870912)
 unfolding difference
-whole-fits v h = by-sign v h (λ z s m. SFits w32 z) (λ l. record { sfits = omega arith }) (λ l. record { sfits = omega arith })
+converted-fits v h = by-sign v h (λ z s m. SFits w32 z) (λ l. record { sfits = omega arith }) (λ l. record { sfits = omega arith })
 
-pub whole-is : (v : ℕ) → v < 2 ^ 30 → ofInt binary64 (toZ w32 (ofZ w32 (toZ w32 v -ℤ toZ w32 (v / 536870912 * 1073741824 % 4294967296)))) ≡ round binary64 (wholeSign v) (wholeSize v) 1
+pub converted-is : (v : ℕ) → v < 2 ^ 30 → ofInt binary64 (toZ w32 (ofZ w32 (toZ w32 (bitXor v 536870912) -ℤ pos 536870912))) ≡ round binary64 (wholeSign v) (wholeSize v) 1
 unfolding difference ofInt
-whole-is v h =
-    ap (ofInt binary64) (toZ-ofZ w32 (difference v) (whole-fits v h))
+converted-is v h =
+    ap (ofInt binary64) (toZ-ofZ w32 (difference v) (converted-fits v h))
     ∙ by-sign v h (λ z s m. ofInt binary64 z ≡ round binary64 s m 1) (λ l. refl) (λ l. ap (λ (m : ℕ). round binary64 true m 1) (size-is v h))
   where
     size-is : (v : ℕ) → v < 2 ^ 30 → suc (2 ^ 30 - suc v) ≡ 2 ^ 30 - v
     size-is v h = omega arith
+
+pub raised-lt : (v : ℕ) → v < 2 ^ 30 → 0x4330_0000_0000_0000 + bitXor v 536870912 < 2 ^ 64
+raised-lt v h = omega (arith, turned-lt v h)
+
+-- raised: 2 ^ 52 and the 30 bits below it, as an f64
+module _ (m : ℕ) (h : m < 2 ^ 30) where
+  raised-finite : Finite (0x4330_0000_0000_0000 + m)
+  raised-finite e = omega arith
+
+  pub raised-number : T (not (nanBits binary64 (0x4330_0000_0000_0000 + m)))
+  raised-number = pattern-number (0x4330_0000_0000_0000 + m) (finite-number (0x4330_0000_0000_0000 + m) raised-finite)
+
+  raised-value : HasValue (ofBits binary64 (0x4330_0000_0000_0000 + m)) false ((2 ^ 52 + m) * 2 ^ 1074) (2 ^ 1074)
+  raised-value =
+      let b = 0x4330_0000_0000_0000 + m in
+      let sign : leb (2 ^ 63) b ≡ false = lt-leb (2 ^ 63) b (omega arith) in
+      let field : b % 2 ^ 63 / 2 ^ 52 ≡ 1075 = omega arith in
+      let digits : b % 2 ^ 52 ≡ m = omega arith in
+      rw (sign, field, digits) at (finite-value b raised-finite)
+
+-- a whole number less 2 ^ 52 + 2 ^ 29
+module _ (t : Bool) (m : ℕ) (e : ℤ) (a k : ℕ) (v : HasValue (fin t m e) false (a * 2 ^ 1074) (2 ^ 1074)) (small : k ≤ 2 ^ 53) where
+  scaled : m * up e * 1 ≡ a * down e
+  scaled = mul-one (m * up e) ∙ eq-of-mul-eq-mul-right (2 ^ 1074) (pow-pos 1074) (m * up e) (a * down e) (v .1 ∙ mul-right-comm a (2 ^ 1074) (down e))
+
+  -- the denominator cancels
+  cancelled : (s : Bool) → round binary64 s (k * down e) (down e * 1) ≡ round binary64 s k 1
+  cancelled s =
+      round-of s (k * down e) (down e * 1) (k * 2 ^ 1074) 1 (rw (mul-one (down e)) (down-pos e)) (lit< tt) same (lt-of-le-of-lt (div-le-self (k * 2 ^ 1074) 1) (whole-lt k small)) ∙ sym (whole-rounded s k small)
+    where
+      same : k * down e * 2 ^ 1074 * 1 ≡ k * 2 ^ 1074 * (down e * 1)
+      same = rw (mul-one, mul-one (down e)) (mul-right-comm k (down e) (2 ^ 1074))
+
+  apart : (b c d : ℕ) → b + c ≡ d → d * down e ≡ b * down e + c * down e
+  apart b c d i = ap (λ (x : ℕ). x * down e) (sym i) ∙ add-mul b c (down e)
+
+  summed : sub binary64 (fin t m e) (ofBits binary64 0x4330_0000_2000_0000) ≡ sum binary64 false (a * down e) true (4503600164241408 * down e) (down e * 1)
+  unfolding sub add neg ofBits
+  summed = ap (λ (s : Bool). sum binary64 s (m * up e * 1) true (4503600164241408 * down e) (down e * 1)) (v .0) ∙ ap (λ (n : ℕ). sum binary64 false n true (4503600164241408 * down e) (down e * 1)) scaled
+
+  less-above : 4503600164241408 + k ≡ a → sub binary64 (fin t m e) (ofBits binary64 0x4330_0000_2000_0000) ≡ round binary64 false k 1
+  unfolding sum
+  less-above i =
+      let p = apart 4503600164241408 k a i in
+      let d : a * down e - 4503600164241408 * down e ≡ k * down e = omega arith in
+      summed
+      ∙ ap (λ (b : Bool). cond b (round binary64 true (4503600164241408 * down e - a * down e) (down e * 1)) (round binary64 false (a * down e - 4503600164241408 * down e) (down e * 1))) (le-ltb (a * down e) (4503600164241408 * down e) (omega arith))
+      ∙ ap (λ (n : ℕ). round binary64 false n (down e * 1)) d
+      ∙ cancelled false
+
+  less-below : a + k ≡ 4503600164241408 → 0 < k → sub binary64 (fin t m e) (ofBits binary64 0x4330_0000_2000_0000) ≡ round binary64 true k 1
+  unfolding sum
+  less-below i l =
+      let p = apart a k 4503600164241408 i in
+      let o : 0 < k * down e = mul-pos l (down-pos e) in
+      let d : 4503600164241408 * down e - a * down e ≡ k * down e = omega arith in
+      summed
+      ∙ ap (λ (b : Bool). cond b (round binary64 true (4503600164241408 * down e - a * down e) (down e * 1)) (round binary64 false (a * down e - 4503600164241408 * down e) (down e * 1))) (lt-ltb (a * down e) (4503600164241408 * down e) (omega arith))
+      ∙ ap (λ (n : ℕ). round binary64 true n (down e * 1)) d
+      ∙ cancelled true
+
+pub raised-is : (v : ℕ) → v < 2 ^ 30 → sub binary64 (ofBits binary64 (0x4330_0000_0000_0000 + bitXor v 536870912)) (ofBits binary64 0x4330_0000_2000_0000) ≡ round binary64 (wholeSign v) (wholeSize v) 1
+unfolding pick
+raised-is v h = go (ofBits binary64 (0x4330_0000_0000_0000 + bitXor v 536870912)) (raised-value (bitXor v 536870912) (turned-lt v h)) (leb (2 ^ 29) v) refl
+  where
+    go : (x : Float) → HasValue x false ((2 ^ 52 + bitXor v 536870912) * 2 ^ 1074) (2 ^ 1074) → (t : Bool) → leb (2 ^ 29) v ≡ t → sub binary64 x (ofBits binary64 0x4330_0000_2000_0000) ≡ round binary64 t (pick t (2 ^ 30 - v) v) 1
+    go (fin s m e) i false f = let l = leb-false (2 ^ 29) v f in less-above s m e (2 ^ 52 + bitXor v 536870912) v i (omega arith) (omega (arith, turned v h))
+    go (fin s m e) i true f = let l = leb-true (2 ^ 29) v f in less-below s m e (2 ^ 52 + bitXor v 536870912) (2 ^ 30 - v) i (omega arith) (omega (arith, turned v h)) (omega arith)
 
 -- ---- a number divided by 100
 
@@ -115,20 +201,6 @@ hundredth (fin t m e) s n v h =
   where
     same : m * up e * 1 * 2 ^ 1074 * 100 ≡ n * (100 * down e)
     same = rw (mul-one, v .1, mul-assoc, mul-comm 100 (down e))
-
--- ---- a whole number, exact as an f64
-
-pub size-le : (v : ℕ) → v < 2 ^ 30 → wholeSize v ≤ 2 ^ 53
-size-le v h = pick-any (λ (m : ℕ). m ≤ 2 ^ 53) (wholeSign v) (omega arith) (omega arith)
-
-pub whole-lt : (m : ℕ) → m ≤ 2 ^ 53 → m * 2 ^ 1074 < 2 ^ 2097
-whole-lt m h = lt-of-le-of-lt (mul-le-mul-right (2 ^ 1074) h) (lit< {m = 2 ^ 53 * 2 ^ 1074} {n = 2 ^ 2097} tt)
-
-in-units : (x : Float) (s : Bool) (m : ℕ) → HasValue x s m 1 → HasValue x s (m * 2 ^ 1074) (2 ^ 1074)
-in-units (fin t k e) s m v = (v .0, ap (λ (y : ℕ). y * 2 ^ 1074) (sym (mul-one (k * up e)) ∙ v .1) ∙ mul-right-comm m (down e) (2 ^ 1074))
-
-pub whole-rounded : (s : Bool) (m : ℕ) → m ≤ 2 ^ 53 → round binary64 s m 1 ≡ ofBits binary64 (signed s (rounded (m * 2 ^ 1074) 1))
-whole-rounded s m h = round-of s m 1 (m * 2 ^ 1074) 1 (lit< tt) (lit< tt) refl (lt-of-le-of-lt (div-le-self (m * 2 ^ 1074) 1) (whole-lt m h))
 
 -- ---- the number of a word, by its form
 
@@ -167,47 +239,94 @@ module _ (w : ℕ) (f : w < 2 ^ 32) (m : meansNothing w ≡ false) where
   unfolding quotientBits
   divided-is = hundredth (ofBits binary64 (quotientBits w 1)) (rkSign w) (rkSize w) undivided-value hundredth-lt
 
+-- ---- the 64 bits of a number, and no NaN's
+
+abbrev pub Pattern : ℕ → Type 0
+Pattern b = (b < 2 ^ 64) × (isNanBits b ≡ false)
+
+rounded-pattern : (s : Bool) (n d : ℕ) → 0 < d → n / d < 2 ^ 2097 → Pattern (signed s (rounded n d))
+rounded-pattern s n d D h = (rounded-lt s n d D h, rounded-number s n d D h)
+
+whole-pattern : (v : ℕ) → v < 2 ^ 30 → Pattern (signed (wholeSign v) (rounded (wholeSize v * 2 ^ 1074) 1))
+whole-pattern v h = rounded-pattern (wholeSign v) (wholeSize v * 2 ^ 1074) 1 (lit< tt) (lt-of-le-of-lt (div-le-self (wholeSize v * 2 ^ 1074) 1) (whole-lt (wholeSize v) (size-le v h)))
+
+module _ (w : ℕ) (f : w < 2 ^ 32) (m : meansNothing w ≡ false) where
+  pub undivided-pattern : Pattern (quotientBits w 1)
+  unfolding quotientBits
+  undivided-pattern =
+      let v = w / 4 in
+      by-form w (λ s n. Pattern (signed s (rounded n 1)))
+      (λ e. whole-pattern v (omega arith))
+      (λ e. rw (size-rounded (floatBits v) (omega arith)) (omega arith, finite-number (floatBits v) (word-finite w f m e)))
+
+  pub divided-pattern : Pattern (quotientBits w 100)
+  unfolding quotientBits
+  divided-pattern = rounded-pattern (rkSign w) (rkSize w) 100 (lit< tt) (hundredth-lt w f m)
+
+-- an f64 of such bits is a number, and has these bits
+module _ (x : Float) (b : ℕ) (e : x ≡ ofBits binary64 b) (p : Pattern b) where
+  is-number : T (not (isNan x))
+  is-number = not-T (isNan x) (ap isNan e ∙ sym (nan-float b) ∙ p .1)
+
+  its-bits : toBits binary64 x ≡ b
+  its-bits = ap (toBits binary64) e ∙ toBits-ofBits binary64 b (p .0) (not-T (isNan (ofBits binary64 b)) (sym (nan-float b) ∙ p .1))
+
 -- ---- what the code picks
 
-picked : {A : Type 0} (a b d : A) (w n : ℕ) → n ≡ w / 2 % 2 → getD (a ∷ b ∷ []) n d ≡ pick (isWhole w) b a
-picked a b d w n e = one-of-two a b d n (omega arith) ∙ ap (λ (k : ℕ). pick (eqb k 1) b a) e
+module _ (w : ℕ) (x : Float) (f : w < 2 ^ 32) (i : x ≡ round binary64 (wholeSign (w / 4)) (wholeSize (w / 4)) 1) where
+  as-bits : x ≡ ofBits binary64 (signed (wholeSign (w / 4)) (rounded (wholeSize (w / 4) * 2 ^ 1074) 1))
+  as-bits = i ∙ whole-rounded (wholeSign (w / 4)) (wholeSize (w / 4)) (size-le (w / 4) (omega arith))
 
-pub float-bits-is : (w n : ℕ) → w < 2 ^ 32 → n ≡ w / 2 % 2 → getD (w / 4 * 17179869184 % 18446744073709551616 ∷ 0 ∷ []) n 0 ≡ pick (isWhole w) 0 (floatBits (w / 4))
-float-bits-is w n f e =
+  pub whole-number : T (not (isNan x))
+  whole-number = is-number x _ as-bits (whole-pattern (w / 4) (omega arith))
+
+  pub whole-bits : (w / 2 % 2 ≡ 0 → ⊥) → toBits binary64 x ≡ quotientBits w 1
+  unfolding quotientBits rkSign rkSize pick
+  whole-bits o = let e : isWhole w ≡ true = eq-eqb (w / 2 % 2) 1 (omega (arith, o)) in rw e (its-bits x _ as-bits (whole-pattern (w / 4) (omega arith)))
+
+pub float-bits : (w : ℕ) → w < 2 ^ 32 → w / 2 % 2 ≡ 0 → w / 4 * 17179869184 % 18446744073709551616 ≡ quotientBits w 1
+unfolding quotientBits rkSign rkSize pick
+float-bits w f o =
+    let e : isWhole w ≡ false = ne-eqb (w / 2 % 2) 1 (λ i. omega arith) in
     let shifted : w / 4 * 17179869184 % 18446744073709551616 ≡ floatBits (w / 4) = mod-eq-of-lt (omega arith) in
-    picked (w / 4 * 17179869184 % 18446744073709551616) 0 0 w n e ∙ ap (λ (b : ℕ). pick (isWhole w) 0 b) shifted
+    rw e (shifted ∙ sym (size-rounded (floatBits (w / 4)) (omega arith)))
 
-module _ (w b : ℕ) (f : w < 2 ^ 32) (m : meansNothing w ≡ false) (i : b ≡ pick (isWhole w) 0 (floatBits (w / 4))) where
-  pub undivided-pattern : T (not (nanBits binary64 b))
-  unfolding pick isNanBits
-  undivided-pattern = pattern-number b (ap isNanBits i ∙ go (isWhole w) refl)
-    where
-      go : (t : Bool) → isWhole w ≡ t → isNanBits (pick t 0 (floatBits (w / 4))) ≡ false
-      go true e = refl
-      go false e = finite-number (floatBits (w / 4)) (word-finite w f m e)
+module _ (w b : ℕ) (f : w < 2 ^ 32) (m : meansNothing w ≡ false) (i : b ≡ quotientBits w 1) where
+  pub undivided-number : T (not (nanBits binary64 b))
+  undivided-number = pattern-number b (ap isNanBits i ∙ undivided-pattern w f m .1)
 
-  pub undivided-is : (n : ℕ) (x : Float) → n ≡ w / 2 % 2 → x ≡ round binary64 (wholeSign (w / 4)) (wholeSize (w / 4)) 1 → getD (ofBits binary64 b ∷ x ∷ []) n nan ≡ ofBits binary64 (quotientBits w 1)
-  unfolding quotientBits pick
-  undivided-is n x j k =
-      picked (ofBits binary64 b) x nan w n j
-      ∙ ap (λ (p : ℕ). pick (isWhole w) x (ofBits binary64 p)) i
-      ∙ by-form w (λ s z. pick (isWhole w) x (ofBits binary64 (pick (isWhole w) 0 (floatBits (w / 4)))) ≡ ofBits binary64 (signed s (rounded z 1)))
-      (λ t. rw t (k ∙ whole-rounded (wholeSign (w / 4)) (wholeSize (w / 4)) (size-le (w / 4) (omega arith))))
-      (λ t. rw t (ap (ofBits binary64) (sym (size-rounded (floatBits (w / 4)) (omega arith)))))
+  quotient-is : div binary64 (ofBits binary64 b) (ofBits binary64 4636737291354636288) ≡ ofBits binary64 (quotientBits w 100)
+  quotient-is = rw i (divided-is w f m)
+
+  pub quotient-number : T (not (isNan (div binary64 (ofBits binary64 b) (ofBits binary64 4636737291354636288))))
+  quotient-number = is-number _ _ quotient-is (divided-pattern w f m)
+
+  pub even-bits : w % 2 ≡ 0 → b ≡ rkBits w
+  unfolding rkBits pick
+  even-bits e = let d : isDivided w ≡ false = ne-eqb (w % 2) 1 (λ j. omega arith) in rw d i
+
+  pub odd-bits : (w % 2 ≡ 0 → ⊥) → toBits binary64 (div binary64 (ofBits binary64 b) (ofBits binary64 4636737291354636288)) ≡ rkBits w
+  unfolding rkBits pick
+  odd-bits o = let d : isDivided w ≡ true = eq-eqb (w % 2) 1 (omega (arith, o)) in rw d (its-bits _ _ quotient-is (divided-pattern w f m))
+
+pub rk-pattern : (w : ℕ) → w < 2 ^ 32 → meansNothing w ≡ false → Pattern (rkBits w)
+unfolding rkBits pick
+rk-pattern w f m = go (isDivided w)
+  where
+    go : (t : Bool) → Pattern (quotientBits w (pick t 100 1))
+    go true = divided-pattern w f m
+    go false = undivided-pattern w f m
 
 pub decoded-nothing : (w : ℕ) (t : Bool) → t ≡ meansNothing w → t ≡ true → Nothing ≡ rkOf w
 unfolding rkOf pick
 decoded-nothing w t h e = rw (← h, e)
 
-pub decoded : (w n : ℕ) (x : Float) (t : Bool) → w < 2 ^ 32 → t ≡ meansNothing w → t ≡ false → x ≡ ofBits binary64 (quotientBits w 1) → n ≡ w % 2
-    → Number (getD (x ∷ div binary64 x (ofBits binary64 4636737291354636288) ∷ []) n nan) ≡ rkOf w
-unfolding rkOf rkBits pick
-decoded w n x t f h e i j =
-    let m : meansNothing w ≡ false = sym h ∙ e in
-    rw (m, i, one-of-two (ofBits binary64 (quotientBits w 1)) (div binary64 (ofBits binary64 (quotientBits w 1)) (ofBits binary64 4636737291354636288)) nan n (omega arith), j, divided-is w f m) (go (isDivided w))
-  where
-    go : (t : Bool) → Number (pick t (ofBits binary64 (quotientBits w 100)) (ofBits binary64 (quotientBits w 1))) ≡ pick false Nothing (Number (ofBits binary64 (quotientBits w (pick t 100 1))))
-    go true = refl
-    go false = refl
+module _ (w b : ℕ) (t : Bool) (f : w < 2 ^ 32) (h : t ≡ meansNothing w) (e : t ≡ false) (i : b ≡ rkBits w) where
+  pub decoded-number : T (not (nanBits binary64 b))
+  decoded-number = pattern-number b (ap isNanBits i ∙ rk-pattern w f (sym h ∙ e) .1)
 
-pub ruleset decoding = (masked-nothing, whole-fits, whole-is, float-bits-is, undivided-pattern, undivided-is, decoded-nothing, nothing-told, decoded)
+  pub decoded : Number (ofBits binary64 b) ≡ rkOf w
+  unfolding rkOf pick
+  decoded = let m : meansNothing w ≡ false = sym h ∙ e in rw (m, i)
+
+pub ruleset decoding = (masked-nothing, turned-lt, turned-small, converted-fits, converted-is, raised-lt, raised-number, raised-is, whole-number, whole-bits, float-bits, undivided-number, quotient-number, even-bits, odd-bits, decoded-nothing, nothing-told, decoded-number, decoded)

@@ -16,9 +16,7 @@ use Rattle.number.specs.declared.Rk.{Rk}
 use Rattle.number.specs.declared.Rk.the-variants.{Number, Nothing}
 use Rattle.number.specs.declared.Packed.the-variants.{Word}
 use Rattle.number.proofs.Float64.{nan-float, not-T, bits-of-is}
-use Rattle.number.proofs.Rounding.{rounded-lt, rounded-number}
-use Rattle.number.proofs.Units.{finite-number, size-rounded}
-use Rattle.number.proofs.Decoding.{size-le, whole-lt, by-form, word-finite, hundredth-lt}
+use Rattle.number.proofs.Decoding.{rk-pattern}
 pub use Rattle.number.proofs.Float64.{nan-told}
 pub use Rattle.number.proofs.Decoding.{nothing-told}
 pub use Rattle.number.proofs.Means.{sound, complete, refused-exactly}
@@ -41,25 +39,6 @@ pub one-pattern : (a b : ℕ) → a < 2 ^ 64 → b < 2 ^ 64 → isNanBits a ≡ 
 one-pattern a b f g m n e = sym (bits-of-float a f m) ∙ ap bitsOf e ∙ bits-of-float b g n
 
 -- ---- RK words
-
--- the 64 bits of a number, and no NaN's
-abbrev Pattern : ℕ → Type 0
-Pattern b = (b < 2 ^ 64) × (isNanBits b ≡ false)
-
-rounded-pattern : (s : Bool) (n d : ℕ) → 0 < d → n / d < 2 ^ 2097 → Pattern (signed s (rounded n d))
-rounded-pattern s n d D h = (rounded-lt s n d D h, rounded-number s n d D h)
-
-rk-pattern : (w : ℕ) → w < 2 ^ 32 → meansNothing w ≡ false → Pattern (rkBits w)
-unfolding rkBits quotientBits pick
-rk-pattern w f m = go (isDivided w)
-  where
-    go : (t : Bool) → Pattern (signed (rkSign w) (rounded (rkSize w) (pick t 100 1)))
-    go true = rounded-pattern (rkSign w) (rkSize w) 100 (lit< tt) (hundredth-lt w f m)
-    go false =
-        let v = w / 4 in
-        by-form w (λ s n. Pattern (signed s (rounded n 1)))
-        (λ e. rounded-pattern (wholeSign v) (wholeSize v * 2 ^ 1074) 1 (lit< tt) (lt-of-le-of-lt (div-le-self (wholeSize v * 2 ^ 1074) 1) (whole-lt (wholeSize v) (size-le v (omega arith)))))
-        (λ e. rw (size-rounded (floatBits v) (omega arith)) (omega arith, finite-number (floatBits v) (word-finite w f m e)))
 
 pub rk-bits-lt : (w : ℕ) → w < 2 ^ 32 → meansNothing w ≡ false → rkBits w < 2 ^ 64
 rk-bits-lt w f m = rk-pattern w f m .0

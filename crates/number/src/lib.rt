@@ -3,9 +3,8 @@ ghost use mathlib.Core.Path.{_≡_};
 ghost use mathlib.Core.Bool.{false};
 ghost use Prim.Native.Nat.{_<_, _/_, _%_, _^_};
 ghost use lib.Ieee.{binary64, ofBits, round};
-ghost use Rattle.walk.specs.Choice.{pick};
 ghost use Rattle.number.specs.Float64.{isNanBits, bitsOf};
-ghost use Rattle.number.specs.Rk.{isWhole, wholeSign, wholeSize, floatBits, quotientBits, meansNothing, rkOf};
+ghost use Rattle.number.specs.Rk.{wholeSign, wholeSize, quotientBits, rkBits, meansNothing, rkOf};
 ghost use Rattle.number.specs.Packing.{wholeForm, packOf};
 
 // What an RK word means.
@@ -52,48 +51,72 @@ pub fn means_nothing(w: u32) -> bool
     w & 0x7FF0_0002 == 0x7FF0_0000
 }
 
-// Bit 0, as an index.
-fn low_bit(x: u32) -> usize
-    ensures { λ r. ⌜ r ≡ x % 2 ⌝ }
-{
-    (x & 1) as usize
-}
-
-// The signed whole number of 30 bits, the uppermost of which counts 2^30 less than it would unsigned.
-fn whole(v: u32) -> f64
+// The signed whole number of 30 bits, the uppermost of which counts 2^30 less than it would unsigned: with that bit turned around they are 2^29 too many.
+fn converted(v: u32) -> f64
     requires { ⌜ v < 2 ^ 30 ⌝ }
     ensures { λ r. ⌜ r ≡ round binary64 (wholeSign v) (wholeSize v) 1 ⌝ }
 {
-    ((v as i32) - ((v >> 29 << 30) as i32)) as f64
+    (((v ^ 0x2000_0000) as i32) - 0x2000_0000) as f64
 }
 
-// The float form's bits; zero where the word is a whole number, whose bits might be a NaN's pattern.
-fn float_bits(w: u32) -> u64
-    ensures { λ r. ⌜ r ≡ pick (isWhole w) 0 (floatBits (w / 4)) ⌝ }
+// The same by its bits: below those of 2^52 they are an f64 as they stand, 2^52 too many.
+fn raised(v: u32) -> f64
+    requires { ⌜ v < 2 ^ 30 ⌝ }
+    ensures { λ r. ⌜ r ≡ round binary64 (wholeSign v) (wholeSize v) 1 ⌝ }
 {
-    let patterns = [((w >> 2) as u64) << 34, 0];
-    patterns[low_bit(w >> 1)]
+    f64::from_bits(0x4330_0000_0000_0000 + (v ^ 0x2000_0000) as u64) - 4503600164241408.0
 }
 
-// The number before any division. Both forms are computed and one is picked by bit 1: a branch would be mispredicted on mixed words.
-fn undivided(w: u32) -> f64
+// The 64 bits of the number before any division. Both forms are computed and one is picked by bit 1, among whole numbers and not among floats, whose pick
+// would be a branch: a branch would be mispredicted on mixed words. `whole` is the whole-number form.
+fn undivided(w: u32, whole: f64) -> u64
+    requires { ⌜ (meansNothing w ≡ false) × (whole ≡ round binary64 (wholeSign (w / 4)) (wholeSize (w / 4)) 1) ⌝ }
+    ensures { λ r. ⌜ r ≡ quotientBits w 1 ⌝ }
+{
+    let bits = f64::to_bits(whole);
+    if w / 2 % 2 == 0 {
+        return ((w >> 2) as u64) << 34;
+    }
+    bits
+}
+
+// The 64 bits of the number that the word means. The quotient, too, is computed in any case, and picked by bit 0.
+fn bits_with(w: u32, whole: f64) -> u64
+    requires { ⌜ (meansNothing w ≡ false) × (whole ≡ round binary64 (wholeSign (w / 4)) (wholeSize (w / 4)) 1) ⌝ }
+    ensures { λ r. ⌜ r ≡ rkBits w ⌝ }
+{
+    let bits = undivided(w, whole);
+    let quotient = f64::to_bits(f64::from_bits(bits) / 100.0);
+    if w % 2 == 0 {
+        return bits;
+    }
+    quotient
+}
+
+// For words one after the other in a short loop, where the conversion is the shorter way.
+pub fn rk_bits(w: u32) -> u64
     requires { ⌜ meansNothing w ≡ false ⌝ }
-    ensures { λ r. ⌜ r ≡ ofBits binary64 (quotientBits w 1) ⌝ }
+    ensures { λ r. ⌜ r ≡ rkBits w ⌝ }
 {
-    let forms = [f64::from_bits(float_bits(w)), whole(w >> 2)];
-    forms[low_bit(w >> 1)]
+    bits_with(w, converted(w >> 2))
 }
 
-// What the word means. The quotient, too, is computed in any case, and picked by bit 0.
+// For a word by itself. The conversion writes half a register, and there is waited for the division of the word before.
+pub fn lone_rk_bits(w: u32) -> u64
+    requires { ⌜ meansNothing w ≡ false ⌝ }
+    ensures { λ r. ⌜ r ≡ rkBits w ⌝ }
+{
+    bits_with(w, raised(w >> 2))
+}
+
+// What the word means.
 pub fn decode(w: u32) -> Rk
     ensures { λ r. ⌜ r ≡ rkOf w ⌝ }
 {
     if means_nothing(w) {
         return Rk::Nothing;
     }
-    let x = undivided(w);
-    let quotients = [x, x / 100.0];
-    Rk::Number(quotients[low_bit(w)])
+    Rk::Number(f64::from_bits(rk_bits(w)))
 }
 
 // The undivided word that means the f64 of these 64 bits: the float form if it fits, else the whole-number form.

@@ -182,8 +182,8 @@ module _ (T : List ℕ) (lo p k q l : ℕ) (size : length T ≡ 53248) (m : Mark
   taken : marks T″ lo q l ≡ marks T lo q l && not (eqb p q)
   taken = bool-ext (marks T″ lo q l) (marks T lo q l && not (eqb p q)) (λ h. take-to (mark T″ lo q l h)) (λ h. unmark T″ lo q l (take-from h))
 
-nothing : (T : List ℕ) → Empty T → (lo q l : ℕ) → marks T lo q l ≡ false
-nothing T empty lo q l = sym (no-mark T lo q l (λ m. let m-is = m .is in let z = empty ((q - lo) / 24) in omega arith))
+pub nothing : (T : List ℕ) → ((j : ℕ) → j < 53248 → getD T j 0 ≡ 0) → (lo q l : ℕ) → marks T lo q l ≡ false
+nothing T empty lo q l = sym (no-mark T lo q l (λ m. let m-is = m .is in let low = m .low in let z = empty ((q - lo) / 24) (omega arith) in omega arith))
 
 -- The BOFs are put into the table: the slots from place p on are empty, and the table and the rest of the BOFs are all BOFs from lo on.
 pub record Filling (all rest : List Bof) (T : List ℕ) (lo p : ℕ) : Type 0 where
@@ -200,7 +200,7 @@ or-none true = refl
 or-none false = refl
 
 pub fill-start : (all rest : List Bof) (T : List ℕ) (lo p : ℕ) → Empty T → Onward rest lo all → Filling all rest T lo p
-fill-start all rest T lo p empty on = record { ahead = λ j h. empty j; whole = λ q l h. rw (nothing T empty lo q l) (on q l h) }
+fill-start all rest T lo p empty on = record { ahead = λ j h. empty j; whole = λ q l h. rw (nothing T (λ j _. empty j) lo q l) (on q l h) }
 
 and-none : (b : Bool) (q : ℕ) → b && not (named [] q) ≡ b
 unfolding named
@@ -317,7 +317,7 @@ unfolding claimed
 left-done sheets all inv = inv .same
 
 module _ (sheets : List Sheet) (all rest : List Bof) (p k : ℕ) (inv : Leaving sheets all (record { start = p; kind = k } ∷ rest)) where
-  head-in : starts all p k ≡ true
+  pub head-in : starts all p k ≡ true
   unfolding starts
   head-in = inv .among p k (rw (eq-eqb p p refl, eq-eqb k k refl) refl)
 
@@ -325,7 +325,7 @@ module _ (sheets : List Sheet) (all rest : List Bof) (p k : ℕ) (inv : Leaving 
   unfolding starts
   tail-in q l g = inv .among q l (or-right (eqb p q && eqb k l) (starts rest q l) g)
 
-  left-named : named sheets p ≡ true → Leaving sheets all rest
+  pub left-named : named sheets p ≡ true → Leaving sheets all rest
   unfolding claimed pick
   left-named y = record { among = tail-in; same = sym (sym (inv .same) ∙ rw y refl) }
 

@@ -1,5 +1,5 @@
-// The slots by which the sheet list is held against the substreams, a window of 1,277,952 positions at a time: two passes over its BOFs and one over the
-// sheets.
+// The slots by which the sheet list is held against the substreams, a window of 1,277,952 positions at a time: a pass over its BOFs and one over the sheets,
+// and one more over the BOFs where a slot is still full.
 ghost use mathlib.Core.Path.{_≡_};
 ghost use Prim.Native.Nat.{_<_};
 ghost use Rattle.sheetlist.specs.Slots.{inside, codeOf, marks, sooner, orElse};

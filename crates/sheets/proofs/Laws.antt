@@ -1,18 +1,19 @@
 -- What the loops over the sheets and the BOFs keep. Assumes nothing.
-use Prim.Native.Nat.{ℕ, zero, suc, _+_, _-_, _/_, _≤_, _<_}
+use Prim.Native.Nat.{ℕ, zero, suc, _+_, _-_, _*_, _/_, _^_, _≤_, _<_}
 use mathlib.Core.Path.{_≡_, refl, sym, ap, _∙_, subst}
-use mathlib.Core.Bool.{Bool, true, false, _||_}
+use mathlib.Core.Bool.{Bool, true, false, not, _&&_, _||_}
 use mathlib.Core.Logic.{⊎-elim}
 use mathlib.Core.List.{List, [], _∷_}
 use native.Mathlib.Omega.{arith}
-use lib.ListN.{length, set}
+use lib.ListN.{length, set, getD}
 use lib.Dec.{eqb, ltb}
-use borrow.Author.Tests.{ne-eqb, le-ltb, ltb-false}
-use Rattle.walk.proofs.Choice.{never, pick-any}
+use borrow.Author.Tests.{ne-eqb, eqb-true, lt-ltb, le-ltb, ltb-false, not-false}
+use Rattle.walk.specs.Choice.{pick}
+use Rattle.walk.proofs.Choice.{never, pick-eq, pick-ne, pick-any}
 use Rattle.record.specs.declared.Header.{Header}
 use Rattle.record.specs.declared.Header.the-variants.{Record, Cut, End}
 use Rattle.record.specs.Record.{headerAt}
-use Rattle.sheetlist.specs.Agreement.{Sheet, Bof, starts, claimed, agreementOf}
+use Rattle.sheetlist.specs.Agreement.{Sheet, Bof, starts, named, claimed, agreementOf}
 use Rattle.sheetlist.specs.Slots.{inside, codeOf, marks, Marked, Empty, Onward, judgedIn, sooner, orElse, Passed}
 use Rattle.sheetlist.specs.declared.Agreement.{Agreement}
 use Rattle.sheetlist.specs.declared.Agreement.the-variants.{Agree, Disagree}
@@ -25,7 +26,7 @@ use Rattle.toplevel.specs.declared.Found.{Found}
 use Rattle.toplevel.specs.declared.Found.the-variants as found
 use Rattle.toplevel.specs.TopLevel.{bofAt, bofsFrom}
 use Rattle.toplevel.proofs.Laws.{bofs-done, bofs-more, bofs-next, bofs-less}
-use Rattle.sheets.specs.Parts.{Filled, PassedAll, NamedAll, Lefts, Windowed}
+use Rattle.sheets.specs.Parts.{NamedAll, NoneLeft, EachNamed, Filled, PassedAll, Lefts, Windowed}
 use Rattle.sheets.specs.declared.Remaining.{Remaining}
 use Rattle.sheets.specs.declared.Remaining.the-variants as remaining
 use Rattle.sheets.specs.declared.Window.{Window}
@@ -61,19 +62,28 @@ module _ (s : List ℕ) (u : ℕ) where
 pub record Filling (s : List ℕ) (u from lo : ℕ) (T : List ℕ) (at : ℕ) : Type 0 where
   pub low : lo ≤ at
   pub for-all : (bofs : List Bof) → Onward (bofsFrom s u from) lo bofs → list.Filling bofs (bofsFrom s u at) T lo at
+  pub passed : ((q k : ℕ) → lo ≤ q → q < at → starts (bofsFrom s u from) q k ≡ true → named (sheetsOf s) q ≡ true) → list.Leaving (sheetsOf s) (bofsFrom s u from) (bofsFrom s u at)
 
 pub fill-start : (s : List ℕ) (u from lo : ℕ) (T : List ℕ) → Empty T → lo ≤ from → Filling s u from lo T from
-fill-start s u from lo T e l = record { low = l; for-all = λ bofs on. list.fill-start bofs (bofsFrom s u from) T lo from e on }
+fill-start s u from lo T e l = record { low = l; for-all = λ bofs on. list.fill-start bofs (bofsFrom s u from) T lo from e on; passed = λ _. list.left-start (sheetsOf s) (bofsFrom s u from) }
 
 module _ (s : List ℕ) (u from lo : ℕ) (T : List ℕ) (at : ℕ) (inv : Filling s u from lo T at) where
   fill-none : bofsFrom s u at ≡ [] → Filled s u from lo T 0
-  unfolding starts
+  unfolding starts pick
   fill-none e =
+      let beyond : bofsFrom s u (length s) ≡ [] = bofs-beyond s u (length s) (omega arith) in
       record {
         within = omega arith;
         far = λ n. absurd (n refl);
         marked = λ bofs on. list.fill-done bofs (bofsFrom s u at) T lo 0 at (inv .for-all bofs on) (λ q l h. rw e refl);
         next = λ n. absurd (n refl);
+        named = λ each.
+            record {
+              past = omega arith;
+              same = ap (claimed (sheetsOf s)) (beyond ∙ sym e) ∙ inv .passed (λ q k low short. each q k (sym (list.inside-open lo 0 q low refl))) .same;
+              next = λ n. absurd (n refl);
+              last = λ z. beyond;
+            };
       }
 
   pub fill-beyond : length s ≤ at → Filled s u from lo T 0
@@ -92,6 +102,13 @@ module _ (s : List ℕ) (u from lo : ℕ) (T : List ℕ) (at : ℕ) (inv : Filli
             list.fill-done bofs (bofsFrom s u at) T lo at at (inv .for-all bofs on)
             (λ q l h. bofs-above s u at q l (list.inside-below lo at q h (λ z. (omega arith))));
         next = λ n bofs on. list.fill-onward bofs (bofsFrom s u at) T lo at (inv .for-all bofs on) low full;
+        named = λ each. subst (NamedAll s u from at) (pick-ne at (length s) at at 0 (λ z. (omega arith)) refl)
+            (record {
+              past = omega arith;
+              same = inv .passed (λ q k low short. each q k (sym (list.inside-by lo at q low (λ z. (omega arith))) ∙ lt-ltb q at short)) .same;
+              next = λ n. list.fill-onward (bofsFrom s u from) (bofsFrom s u at) T lo at (inv .for-all (bofsFrom s u from) (λ q k h. refl)) low full;
+              last = λ z. absurd (omega arith);
+            });
       }
 
   pub fill-low : lo ≤ at
@@ -109,6 +126,9 @@ module _ (s : List ℕ) (u from lo : ℕ) (T : List ℕ) (at : ℕ) (inv : Filli
           low = omega arith;
           for-all = λ bofs on.
               list.fill-again bofs (bofsFrom s u e) T lo at k e c (rw (bofs-more s u at r is k e h) at (inv .for-all bofs on)) low short (omega arith) (omega arith) (omega arith) size j;
+          passed = λ each.
+              (let rest = rw (bofs-more s u at r is k e h) at (inv .passed (λ q l g x. each q l g (omega arith))) in
+              list.left-named (sheetsOf s) (bofsFrom s u from) (bofsFrom s u e) at k rest (each at k low (omega arith) (list.head-in (sheetsOf s) (bofsFrom s u from) (bofsFrom s u e) at k rest)));
         }
 
 pub ruleset fill-laws = (fill-start, fill-beyond, fill-done, fill-full, fill-low, fill-small, fill-again, bofs-less)
@@ -206,6 +226,45 @@ module _ (s : List ℕ) (u from lo hi at : ℕ) (inv : Leaving s u from lo hi at
           }
 
 pub ruleset left-laws = (left-start, left-out, left-done, left-here, left-again, bofs-less)
+
+-- ---- all slots are empty
+-- the sum of those before i is 0 only where they are all empty
+pub record Summing (T : List ℕ) (i sum : ℕ) : Type 0 where
+  pub small : sum ≤ 255 * i
+  pub empty : sum ≡ 0 → (j : ℕ) → j < i → getD T j 0 ≡ 0
+
+pub sum-start : (T : List ℕ) → Summing T 0 0
+sum-start T = record { small = omega arith; empty = λ e j l. absurd (omega arith) }
+
+module _ (T : List ℕ) (i sum : ℕ) (inv : Summing T i sum) where
+  pub sum-again : (x : ℕ) → x ≡ getD T i 0 → x < 256 → Summing T (i + 1) (sum + x)
+  sum-again x is l =
+      let small = inv .small in
+      record {
+        small = omega arith;
+        empty = λ e j k. ⊎-elim (λ same. rw same (sym is ∙ omega arith)) (λ other. inv .empty (omega arith) j (omega arith)) (list.same-or-not j i);
+      }
+
+  pub sum-room : i < 53248 → (x : ℕ) → x < 256 → sum + x < 2 ^ 64
+  sum-room l x h = let small = inv .small in omega arith
+
+  pub sum-done : 53248 ≤ i → eqb sum 0 ≡ true → NoneLeft T
+  sum-done l e j h = inv .empty (eqb-true sum 0 e) j (omega arith)
+
+pub ruleset sum-laws = (sum-start, sum-again, sum-room, sum-done)
+
+-- then each BOF of the window is named
+module _ (s : List ℕ) (u from lo hi : ℕ) (T : List ℕ) (table : Marked T lo hi (bofsFrom s u from) (sheetsOf s)) (named-so : EachNamed s u from lo hi → NamedAll s u from hi (pick (eqb hi 0) (length s) hi)) (r : Bool) (told : r ≡ true → NoneLeft T) (yes : r ≡ true) where
+  each : EachNamed s u from lo hi
+  each q k i st = not-false (named (sheetsOf s) q) (ap (λ (a : Bool). a && not (named (sheetsOf s) q)) (sym st) ∙ sym (table q k i) ∙ list.nothing T (told yes) lo q k)
+
+  pub none-open : hi ≡ 0 → (n : ℕ) → n ≡ length s → Lefts s u from hi (remaining.Named n)
+  none-open z n e = subst (NamedAll s u from hi) (sym (e ∙ pick-eq (length s) (length s) hi hi 0 z refl)) (named-so each)
+
+  pub none-next : (hi ≡ 0 → ⊥) → Lefts s u from hi (remaining.Named hi)
+  none-next z = subst (NamedAll s u from hi) (sym (pick-ne hi (length s) hi hi 0 z refl)) (named-so each)
+
+pub ruleset none-laws = (none-open, none-next)
 
 -- ---- the three passes together
 module _ (s : List ℕ) (u from lo : ℕ) (T₀ T : List ℕ) (hi : ℕ) (filled : Filled s u from lo T₀ hi) (v : Agreement) (passed : PassedAll T₀ T lo hi (sheetsOf s) v) where

@@ -1,6 +1,6 @@
 // The walk of the top-level substreams with the sheet list held against it: refusal 10. Sheets that name the BOFs in their order, as writers write
 // them, are settled inside the walk; for any other order the BOFs are put into slots of 24 positions, 53,248 slots at a time, so that the stack holds them:
-// each window walks its own BOFs twice, and all sheets once.
+// each window walks its own BOFs once more, and all sheets once.
 ghost use mathlib.Core.Path.{_≡_};
 ghost use Prim.Native.Nat.{_≤_};
 ghost use lib.ListN.{length};
@@ -8,7 +8,10 @@ ghost use Rattle.sheetlist.specs.Agreement.{agreementOf};
 ghost use Rattle.sheetlist.specs.Slots.{Marked, Empty};
 ghost use Rattle.globals.specs.Sheets.{sheetsOf};
 ghost use Rattle.toplevel.specs.TopLevel.{bofsFrom};
-ghost use Rattle.sheets.specs.Parts.{Filled, PassedAll, Lefts, Windowed};
+ghost use Rattle.sheets.specs.Parts.{NamedAll, NoneLeft, EachNamed, Filled, PassedAll, Lefts, Windowed};
+ghost use Rattle.walk.specs.Choice.{pick};
+ghost use lib.Dec.{eqb};
+ghost use mathlib.Core.Bool.{true};
 ghost use Rattle.sheets.specs.Tops.{sheetFrom, followed, tailOf};
 use globals::Bound;
 use sheetlist::Agreement;
@@ -124,6 +127,40 @@ fn left(s: &[u8], unique: u32, from: usize, lo: usize, hi: usize, slots: &[u8; 5
     }
 }
 
+// Whether all slots are empty. Every one is looked at, without a branch: this is done sixteen at a time.
+fn none_left(slots: &[u8; 53248]) -> bool
+    ensures { λ r. ⌜ (r ≡ true → NoneLeft (now (slots .entry))) ⌝ }
+{
+    let mut sum: usize = 0;
+    let mut i: usize = 0;
+    while i < 53248 {
+        sum += le::byte_as_usize(slots[i]);
+        i += 1;
+    }
+    sum == 0
+}
+
+// What is left of the window. Only where a slot isn't empty are its BOFs walked again, for the first that no sheet names.
+fn unnamed(
+    s: &[u8],
+    unique: u32,
+    from: usize,
+    lo: usize,
+    hi: usize,
+    slots: &[u8; 53248],
+) -> Remaining
+    requires { ⌜ (lo ≤ from) × (hi ≤ length (now s)) × Marked (now slots) lo hi (bofsFrom (now s) unique from) (sheetsOf (now s)) × (EachNamed (now s) unique from lo hi → NamedAll (now s) unique from hi (pick (eqb hi 0) (length (now s)) hi)) ⌝ }
+    ensures { λ r. ⌜ Lefts (now (s .entry)) unique from hi r ⌝ }
+{
+    if none_left(slots) {
+        if hi == 0 {
+            return Remaining::Named(s.len());
+        }
+        return Remaining::Named(hi);
+    }
+    left(s, unique, from, lo, hi, slots)
+}
+
 // With empty slots.
 fn with_slots(s: &[u8], unique: u32, from: usize, lo: usize, slots: &mut [u8; 53248]) -> Window
     requires { ⌜ (length (now slots) ≡ 53248) × Empty (now slots) × (lo ≤ from) ⌝ }
@@ -137,7 +174,7 @@ fn with_slots(s: &[u8], unique: u32, from: usize, lo: usize, slots: &mut [u8; 53
             hi,
             at: hi,
         },
-        Agreement::Agree => match left(s, unique, from, lo, hi, slots) {
+        Agreement::Agree => match unnamed(s, unique, from, lo, hi, slots) {
             Remaining::Named(at) => Window {
                 fault: Agreement::Agree,
                 free: Agreement::Agree,

@@ -1,6 +1,7 @@
-//! How many instructions a listing takes: this program is run again under a counter, once for each piece of work and once for none, which is what
+//! How many instructions a piece of work takes: this program is run again under a counter, once for each piece and once for none, which is what
 //! starting and reading the file take. The counter is the processor's, by perf, or else valgrind's; on a machine that has neither there is none.
 
+use crate::listers;
 use std::env;
 use std::fs;
 use std::path::Path;
@@ -9,28 +10,24 @@ use std::process::{Command, Output};
 /// The word that asks for one piece of work.
 pub const WORK: &str = "--work";
 
-#[derive(Clone, Copy)]
-pub enum Work {
-    Nothing,
-    Ours,
-    Theirs,
-}
+/// A piece of work on a stream, by its name.
+pub type Work = (&'static str, fn(&[u8]) -> u64);
 
-impl Work {
-    const fn name(self) -> &'static str {
-        match self {
-            Work::Nothing => "nothing",
-            Work::Ours => "ours",
-            Work::Theirs => "theirs",
-        }
-    }
+pub const WORKS: [Work; 6] = [
+    (NOTHING, |_| 0),
+    (CHECK_OURS, listers::check_ours),
+    (CHECK_PLAIN, listers::check_plain),
+    (OURS, listers::list_ours),
+    (PLAIN, listers::list_plain),
+    (JOINED, listers::list_joined),
+];
 
-    pub fn named(name: &str) -> Option<Self> {
-        [Work::Nothing, Work::Ours, Work::Theirs]
-            .into_iter()
-            .find(|work| work.name() == name)
-    }
-}
+const NOTHING: &str = "nothing";
+const CHECK_OURS: &str = "check-ours";
+const CHECK_PLAIN: &str = "check-plain";
+pub const OURS: &str = "ours";
+const PLAIN: &str = "plain";
+const JOINED: &str = "joined";
 
 /// A counter: the words before the program's own, and how its report is read.
 struct Counter {
@@ -68,12 +65,12 @@ const COUNTERS: [Counter; 2] = [
 ];
 
 impl Counter {
-    fn count(&self, work: Work, file: &Path) -> Option<u64> {
+    fn count(&self, work: &str, file: &Path) -> Option<u64> {
         let (first, rest) = self.words.split_first()?;
         let Output { status, stderr, .. } = Command::new(first)
             .args(rest)
             .arg(env::current_exe().ok()?)
-            .args([WORK, work.name()])
+            .args([WORK, work])
             .arg(file)
             .output()
             .ok()?;
@@ -81,19 +78,35 @@ impl Counter {
         status.success().then(|| (self.read)(&report)).flatten()
     }
 
-    fn both(&self, file: &Path) -> Option<[u64; 2]> {
-        let nothing = self.count(Work::Nothing, file)?;
-        let ours = self.count(Work::Ours, file)?;
-        let theirs = self.count(Work::Theirs, file)?;
-        Some([ours.checked_sub(nothing)?, theirs.checked_sub(nothing)?])
+    fn all(&self, file: &Path) -> Option<Counts> {
+        let nothing = self.count(NOTHING, file)?;
+        let of = |work| self.count(work, file)?.checked_sub(nothing);
+        Some(Counts {
+            check_ours: of(CHECK_OURS)?,
+            check_plain: of(CHECK_PLAIN)?,
+            ours: of(OURS)?,
+            plain: of(PLAIN)?,
+            joined: of(JOINED)?,
+        })
     }
 }
 
-/// Ours and theirs, for one check and listing of the stream.
-pub fn of_listings(stream: &[u8]) -> Option<[u64; 2]> {
-    let file = env::temp_dir().join(format!("vaigunthe-bench-{}", std::process::id()));
-    fs::write(&file, stream).ok()?;
-    let counts = COUNTERS.iter().find_map(|counter| counter.both(&file));
-    let _ = fs::remove_file(&file);
-    counts
+/// Instructions: of the two checks, and of the three listings, each with its check.
+pub struct Counts {
+    pub check_ours: u64,
+    pub check_plain: u64,
+    pub ours: u64,
+    pub plain: u64,
+    pub joined: u64,
+}
+
+impl Counts {
+    /// For one stream; none without a counter.
+    pub fn of(stream: &[u8]) -> Option<Self> {
+        let file = env::temp_dir().join(format!("vaigunthe-bench-{}", std::process::id()));
+        fs::write(&file, stream).ok()?;
+        let counts = COUNTERS.iter().find_map(|counter| counter.all(&file));
+        let _ = fs::remove_file(&file);
+        counts
+    }
 }

@@ -569,6 +569,11 @@ impl fmt::Display for Value {
 pub struct Cell([u64; 4]);
 
 impl Cell {
+    /// The four words, as `station.h` describes them.
+    pub fn words(&self) -> [u64; 4] {
+        self.0
+    }
+
     /// Its row, from 0.
     pub fn row(&self) -> u16 {
         self.0[0] as u16
@@ -651,7 +656,8 @@ impl fmt::Debug for Cell {
     }
 }
 
-const BATCH: usize = 128;
+/// How many cells are taken from the library at a time.
+pub const BATCH: usize = 128;
 
 /// The cells of a sheet, in stream order, taken from the library a batch at a time.
 pub struct Cells<'a> {

@@ -27,8 +27,6 @@ put-formula-spec =
     (λ c. search needs)
     -- u64-at-requires
     (λ c κs. search needs)
-    -- result-value-requires
-    (λ c κs. search needs)
     -- result-said-requires
     (λ c κs. search needs)
     -- add-put-one

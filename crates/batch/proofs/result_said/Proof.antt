@@ -1,40 +1,24 @@
-use Rattle.walk.proofs.Choice.{refl′}
-use Rattle.batch.proofs.Laws.{result-seen}
+use Rattle.walk.specs.Choice.{pick}
+use Rattle.walk.proofs.Choice.{tests}
+use Rattle.value.specs.Value.{markedResult}
+use Rattle.value.specs.declared.FormulaResult.the-variants as result
+use Rattle.batch.proofs.Words.{plain-laws, marked-said}
 use borrow.Author.Needs.{needs}
 use Rattle.batch.proofs.result_said.Statement.{statement}
 use Rattle.batch.proofs.result_said.Tie as tie
 
 pub result-said-spec : {M : Type 1} → statement M
+unfolding markedResult pick
 result-said-spec =
     tie.close
     (tie.spec
-    -- enum-known-r
-    (λ c. search needs)
-    -- bits-of-requires
-    (λ c κs. search needs)
-    -- enum-known-r-2
-    (λ c. search needs)
-    -- enum-told
-    (λ c. search needs)
-    -- enum-known-r-3
-    (λ c. search needs)
-    -- byte-as-u64-requires
-    (λ c κs. search needs)
-    -- enum-known-r-4
-    (λ c. search needs)
-    -- byte-as-u64-requires-2
-    (λ c κs. search needs)
-    -- enum-told-2
-    (λ c. search needs)
     -- returns
-    (λ c. (search needs, search (result-seen, refl′, needs)))
+    (λ c. (search (plain-laws, needs), search (plain-laws, needs)))
     -- returns-2
-    (λ c. search needs)
+    (λ c. marked-said _ (search needs) result.Text (search tests))
     -- returns-3
-    (λ c. search needs)
+    (λ c. marked-said _ (search needs) (result.Truth _) (search (tests, c .match .keys2)))
     -- returns-4
-    (λ c. search needs)
+    (λ c. marked-said _ (search needs) (result.Error _) (search (tests, c .match .keys3)))
     -- returns-5
-    (λ c. search needs)
-    -- returns-6
-    (λ c. search needs))
+    (λ c. marked-said _ (search needs) result.Empty (search tests)))

@@ -1,5 +1,4 @@
-use Rattle.walk.proofs.Choice.{refl′}
-use Rattle.batch.proofs.Words.{rk-kind-is, rk-word-is}
+use Rattle.batch.proofs.Words.{rk-laws}
 use borrow.Author.Needs.{needs}
 use Rattle.batch.proofs.rk_said.Statement.{statement}
 use Rattle.batch.proofs.rk_said.Tie as tie
@@ -8,15 +7,11 @@ pub rk-said-spec : {M : Type 1} → statement M
 rk-said-spec =
     tie.close
     (tie.spec
-    -- decode-requires
+    -- means-nothing-requires
     (λ c κs. search needs)
-    -- enum-known-x
-    (λ c. search needs)
-    -- bits-of-requires
-    (λ c κs. search needs)
-    -- enum-told
-    (λ c. search needs)
     -- returns
-    (λ c. (search (rk-kind-is, refl′, needs), search (rk-word-is, needs)))
+    (λ c. (search rk-laws, search rk-laws))
+    -- rk-bits-requires
+    (λ c κs. search rk-laws)
     -- returns-2
-    (λ c. (search (rk-kind-is, refl′, needs), search (rk-word-is, refl′, needs))))
+    (λ c. (search rk-laws, search rk-laws)))

@@ -1,4 +1,4 @@
-use Rattle.batch.proofs.Steps.{size-laws, step-laws}
+use Rattle.batch.proofs.Steps.{size-laws, step-laws, parts-order}
 use borrow.Author.Needs.{needs}
 use Rattle.batch.proofs.step_record.Statement.{statement}
 use Rattle.batch.proofs.step_record.Tie as tie
@@ -15,21 +15,33 @@ step-record-spec =
     (λ c. search needs)
     -- put-record-requires
     (λ c κs. (search needs, search needs, search needs, search size-laws, search size-laws))
+    -- enum-told
+    (λ c. search needs)
+    -- add-t20
+    (λ c. search needs)
+    -- enum-known-count
+    (λ c. search needs)
+    -- spot-requires
+    (λ c κs. search needs)
+    -- sub-u16-as-usize
+    (λ c. search (parts-order, needs))
+    -- u16-as-usize-requires
+    (λ c κs. search needs)
+    -- add-t24
+    (λ c. search needs)
+    -- enum-told-2
+    (λ c. search needs)
     -- step-past-requires-2
     (λ c κs. search needs)
     -- same-length
     (λ c. search needs)
     -- returns-2
     (λ c. search (step-laws, needs))
-    -- spot-requires
-    (λ c κs. search needs)
-    -- sub-u16-as-usize
-    (λ c. search needs)
-    -- u16-as-usize-requires
-    (λ c κs. search needs)
-    -- add-t19
-    (λ c. search needs)
     -- same-length-2
     (λ c. search needs)
     -- returns-3
+    (λ c. search (step-laws, needs))
+    -- same-length-3
+    (λ c. search needs)
+    -- returns-4
     (λ c. search (step-laws, needs)))

@@ -11,13 +11,9 @@ decode-spec =
     (λ c κs. search needs)
     -- returns
     (λ c. search decoding)
-    -- undivided-requires
+    -- rk-bits-requires
     (λ c κs. search decoding)
-    -- low-bit-requires
-    (λ c κs. search needs)
-    -- mul-t7
-    (λ c. search needs)
-    -- array-read-t5
-    (λ c. search needs)
+    -- float-from-bits-t
+    (λ c. search decoding)
     -- returns-2
     (λ c. search decoding))

@@ -7,17 +7,11 @@ pub undivided-spec : {M : Type 1} → statement M
 undivided-spec =
     tie.close
     (tie.spec
-    -- float-bits-requires
-    (λ c κs. search needs)
-    -- float-from-bits-result
+    -- float-to-bits-bits
     (λ c. search decoding)
-    -- whole-requires
-    (λ c κs. search needs)
-    -- low-bit-requires
-    (λ c κs. search needs)
-    -- mul-result
-    (λ c. search needs)
-    -- array-read-result
+    -- cast-t
     (λ c. search needs)
     -- returns
+    (λ c. search decoding)
+    -- returns-2
     (λ c. search decoding))

@@ -15,11 +15,12 @@ with-slots-spec =
     (λ c. search needs)
     -- enum-told
     (λ c. search needs)
-    -- left-requires
+    -- unnamed-requires
     (λ c κs. (
       c .before .before .before .before .before .before .before .before .pre .2,
       c .before .before .before .before .before .fill .ensures .1 .within,
       window-left _ _ _ _ _ _ _ (c .before .before .before .before .before .fill .ensures .1) _ (c .before .before .before .pass .ensures) (search needs),
+      c .before .before .before .before .before .fill .ensures .1 .named,
     ))
     -- enum-known-at
     (λ c. search needs)
@@ -28,6 +29,6 @@ with-slots-spec =
     -- returns
     (λ c. window-fault _ _ _ _ _ _ _ (c .before .before .before .before .before .fill .ensures .1) _ (c .before .before .before .pass .ensures) _ (search needs))
     -- returns-2
-    (λ c. window-named _ _ _ _ _ _ _ (c .before .before .before .before .before .before .before .before .before .fill .ensures .1) _ (c .before .before .before .before .before .before .before .pass .ensures) (search needs) (c .before .before .before .left .result) (c .before .before .before .left .ensures) _ (search needs))
+    (λ c. window-named _ _ _ _ _ _ _ (c .before .before .before .before .before .before .before .before .before .fill .ensures .1) _ (c .before .before .before .before .before .before .before .pass .ensures) (search needs) (c .before .before .before .unnamed .result) (c .before .before .before .unnamed .ensures) _ (search needs))
     -- returns-3
-    (λ c. window-free _ _ _ _ _ _ _ (c .before .before .before .before .before .before .before .before .before .fill .ensures .1) _ (c .before .before .before .before .before .before .before .pass .ensures) (search needs) (c .before .before .before .left .result) (c .before .before .before .left .ensures) _ (search needs)))
+    (λ c. window-free _ _ _ _ _ _ _ (c .before .before .before .before .before .before .before .before .before .fill .ensures .1) _ (c .before .before .before .before .before .before .before .pass .ensures) (search needs) (c .before .before .before .unnamed .result) (c .before .before .before .unnamed .ensures) _ (search needs)))

@@ -1,16 +1,14 @@
 use Rattle.number.proofs.Decoding.{decoding}
 use borrow.Author.Needs.{needs}
-use Rattle.number.proofs.whole.Statement.{statement}
-use Rattle.number.proofs.whole.Tie as tie
+use Rattle.number.proofs.converted.Statement.{statement}
+use Rattle.number.proofs.converted.Tie as tie
 
-pub whole-spec : {M : Type 1} → statement M
-whole-spec =
+pub converted-spec : {M : Type 1} → statement M
+converted-spec =
     tie.close
     (tie.spec
     -- cast-result
-    (λ c. search needs)
-    -- cast-result-2
-    (λ c. search needs)
+    (λ c. search (decoding, needs))
     -- sub-result
     (λ c. search decoding)
     -- int-to-float-result
