@@ -56,7 +56,7 @@ enum station_refusal {
     STATION_BAD_STACK = 14,       /* the formula's stack runs short, or does not end with one operand; at the token, or the formula's end */
     STATION_BAD_FUNCTION = 15,    /* the formula has no such function, or uses it wrongly; the offset is the token's */
     STATION_AMBIGUOUS = 16,       /* correction: two or more cells have the address; offset 0 */
-    STATION_WRONG_KIND = 17,      /* correction: the cell's kind does not take this kind of value; offset 0 */
+    STATION_WRONG_KIND = 17,      /* correction: the cell's kind does not take this kind of value, or the sheet is the template's; offset 0 */
     STATION_DOES_NOT_FIT = 18,    /* correction: the value does not fit the cell; offset 0 */
     STATION_NOT_A_SESSION = 20,   /* the stream is outside the profile of a sensor's session; offset 0 where no cell is at fault */
 };
@@ -127,6 +127,66 @@ struct station_filled station_next_cells(const uint8_t *stream, size_t length, s
 /* correct: one cell's value field. kind 0 takes number, 1 index (a text), 2 byte (a truth), any other byte (an error code) */
 struct station_answer station_correct(uint8_t *stream, size_t length, uint32_t sheet, uint32_t row, uint32_t column,
                                       uint8_t kind, double number, uint32_t index, uint8_t byte);
+
+/* One template, many sessions: the questions over a template and a session, each with at most two checks. A sheet comes whole from the
+ * session, or from the template where the session has no sheet of that number. whose is 1 for the template, 2 for the session, 0 for
+ * neither: in an answer it says whose stream is meant, in a refusal of the check which stream is refused (the template's refusals come
+ * first); the refusals 11, 12, 16, 17 and 18 are the question's, with 0. */
+
+/* check: how many sheets and strings each has. The session's text indices resolve in its own table if it has one (even an empty one), else in
+ * the template's: table is whose. sheet is the place of the first sheet in either stream (the pair's sheets are the session's, then the
+ * template's from that number on); segment, at and end are the places of the first string, for station_next_string on that stream. */
+struct station_pair_check {
+    uint8_t whose;
+    uint8_t number;
+    size_t offset;
+    uint8_t table;
+    size_t sheet;
+    size_t template_sheets;
+    uint32_t template_strings;
+    size_t template_segment;
+    size_t template_at;
+    size_t template_end;
+    size_t session_sheets;
+    uint32_t session_strings;
+    size_t session_segment;
+    size_t session_at;
+    size_t session_end;
+};
+struct station_pair_check station_pair_check(const uint8_t *template_stream, size_t template_length, const uint8_t *session, size_t session_length);
+
+/* list: a sheet by its number. Its name lies 12 bytes after header in the stream that whose names, size bytes long, width bytes a character;
+ * kind as for station_next_sheet */
+struct station_pair_sheet { uint8_t whose; uint8_t number; size_t offset; size_t header; size_t size; size_t width; uint8_t kind; uint32_t rows; };
+struct station_pair_sheet station_pair_sheet(const uint8_t *template_stream, size_t template_length, const uint8_t *session, size_t session_length,
+                                             uint32_t sheet);
+
+/* list: the place of a sheet's first cell, for station_next_cells on the stream that whose names */
+struct station_pair_cells { uint8_t whose; uint8_t number; size_t offset; size_t at; uint16_t part; uint8_t level; };
+struct station_pair_cells station_pair_cells(const uint8_t *template_stream, size_t template_length, const uint8_t *session, size_t session_length,
+                                             uint32_t sheet);
+
+/* fetch: a string by the template's index where asked is 1, else by the session's; whose is the table it was found in */
+struct station_pair_units { uint8_t whose; uint8_t number; size_t offset; size_t units; };
+struct station_pair_units station_pair_fetch(const uint8_t *template_stream, size_t template_length, const uint8_t *session, size_t session_length,
+                                             uint8_t asked, uint32_t index, uint16_t *units, size_t room);
+
+/* fetch by cell: the text result of a formula, as station_text, in the stream that has the sheet */
+struct station_pair_units station_pair_text(const uint8_t *template_stream, size_t template_length, const uint8_t *session, size_t session_length,
+                                            uint32_t sheet, uint32_t row, uint32_t column, uint16_t *units, size_t room);
+
+/* correct: one cell of the session; 17 for a sheet that only the template has, ahead of 11, 12 and 16. whose is 2 where it is granted. */
+struct station_pair_answer { uint8_t whose; uint8_t number; size_t offset; };
+struct station_pair_answer station_pair_correct(const uint8_t *template_stream, size_t template_length, uint8_t *session, size_t session_length,
+                                                uint32_t sheet, uint32_t row, uint32_t column, uint8_t kind, double number, uint32_t index,
+                                                uint8_t byte);
+
+/* fill: a table of string places for each stream; 12 where either has under two numbers for each of its strings, and then neither changes.
+ * station_fetch_through then fetches from a stream by its table; a session without a string table gives 11. */
+struct station_pair_filled { uint8_t whose; uint8_t number; size_t offset; uint32_t template_strings; uint32_t session_strings; };
+struct station_pair_filled station_pair_fill(const uint8_t *template_stream, size_t template_length, const uint8_t *session, size_t session_length,
+                                             uint32_t *template_table, size_t template_numbers, uint32_t *session_table,
+                                             size_t session_numbers);
 
 /* profile: whether a stream is of the kind that the sensors write, with how many rows and columns (2, or 3 with the host's seconds); else
  * 20 after any refusal of the check, at the record of the first cell at fault */

@@ -44,14 +44,16 @@ use Rattle.correction.proofs.Laws.{hit-row, hit-below, miss-row, start-place}
 use Rattle.celltext.specs.declared.Spot.{Spot}
 use Rattle.celltext.specs.declared.Spot.the-variants.{Text, Refused}
 use Rattle.celltext.specs.CellText.{answerTo, answerOf, bufferTo, bufferAfter}
-use Rattle.celltext.specs.Parts.{Fetches, Within, First, Whole}
+use Rattle.celltext.specs.Parts.{Fetches, Within, First}
 
 -- ---- the first of some cells
 module _ (s : List ℕ) (c : Cell) (l : List Cell) where
   first-silent : saysText (c .value) ≡ false → First s (c ∷ l) (Refused 11 0)
+  unfolding answerTo bufferTo
   first-silent h = record { within = tt; fetches = λ b. (sym (pick-false (fetched.Refused 11 0) _ _ _ h refl), sym (pick-false b _ _ _ h refl)) }
 
   first-text : (f e : ℕ) → e ≤ length s → saysText (c .value) ≡ true → unitsOf s c ≡ listOf (textOf s f e) → First s (c ∷ l) (Text f e)
+  unfolding answerTo bufferTo
   first-text f e w h q = record {
     within = w;
     fetches = λ b. (
@@ -61,6 +63,7 @@ module _ (s : List ℕ) (c : Cell) (l : List Cell) where
   }
 
 first-none : (s : List ℕ) → First s [] (Refused 11 0)
+unfolding answerTo bufferTo
 first-none s = record { within = tt; fetches = λ b. (refl, refl) }
 
 -- ---- a record that has the address
@@ -163,7 +166,40 @@ module _ (s : List ℕ) (from row column at level : ℕ) (inv : Finding s from r
 
 pub ruleset find-laws = (find-start, row-less, row-few, row-room, row-again, found-text, found-silent, next-less, next-again, found-none)
 
--- ---- the sheet
+-- ---- in a sheet
+pub spot-in : (s : List ℕ) (p k row column : ℕ) (v : Place) (y : Spot) → v ≡ startBy (length s) p k → First s (cellsAt row column (listedFrom s (placeAt (v .at) 0))) y
+    → First s (cellsAt row column (listedFrom s (startBy (length s) p k))) y
+spot-in s p k row column v y e f =
+    subst (λ (x : Place). First s (cellsAt row column (listedFrom s x)) y) (ap (λ (x : Place). placeAt (x .at) 0) e ∙ start-place (length s) p k) f
+
+-- ---- its fetch
+module _ (s : List ℕ) (l : List Cell) (r : Spot) (is : First s l r) where
+  module _ (f e : ℕ) (h : r ≡ Text f e) where
+    at-text : First s l (Text f e)
+    at-text = subst (First s l) h is
+
+    pub text-within : e ≤ length s
+    text-within = at-text .within
+
+    pub text-answer : (b : List ℕ) (y : Fetched) → y ≡ fetchedOf (length b) (listOf (textOf s f e)) → y ≡ answerTo s b l
+    text-answer b y i = i ∙ sym (at-text .fetches b .0)
+
+    pub text-buffer : (b b′ : List ℕ) → b′ ≡ bufferOf b (listOf (textOf s f e)) → b′ ≡ bufferTo s b l
+    text-buffer b b′ i = i ∙ sym (at-text .fetches b .1)
+
+  module _ (m o : ℕ) (h : r ≡ Refused m o) where
+    at-refused : First s l (Refused m o)
+    at-refused = subst (First s l) h is
+
+    pub refused-answer : (b : List ℕ) → fetched.Refused m o ≡ answerTo s b l
+    refused-answer b = sym (at-refused .fetches b .0)
+
+    pub refused-buffer : (b : List ℕ) → b ≡ bufferTo s b l
+    refused-buffer b = sym (at-refused .fetches b .1)
+
+pub ruleset fetch-laws = (text-within, text-answer, text-buffer, refused-answer, refused-buffer)
+
+-- ---- after the check
 module _ {A : Type 0} (F : Sheet → A) (G : Sought → A) (same : (x : Sheet) → F x ≡ G (foundSheet x)) where
   to-sought : (l : List Sheet) (n : ℕ) → nth l n F (G sought.Absent) ≡ G (nth l n foundSheet sought.Absent)
   unfolding nth
@@ -171,83 +207,51 @@ module _ {A : Type 0} (F : Sheet → A) (G : Sought → A) (same : (x : Sheet) �
   to-sought (x ∷ l) zero = same x
   to-sought (x ∷ l) (suc n) = to-sought l n
 
-module _ (s : List ℕ) (n row column : ℕ) {r : Checked} (is : r ≡ checkedOf s 0) where
+module _ (s : List ℕ) (n row column : ℕ) (b : List ℕ) {r : Checked} (is : r ≡ checkedOf s 0) where
   abbrev cellsOf : Sheet → List Cell
   cellsOf x = cellsAt row column (listedOf s x)
 
-  pub whole-wrong : (m o : ℕ) → r ≡ Wrong m o → Whole s n row column (Refused m o)
-  unfolding answerOf bufferAfter
-  whole-wrong m o h = record {
-    within = tt;
-    fetches = λ b. (
-      ap (onChecked fetched.Refused (λ (g : Globals). nth (sheetsOf s) n (λ (x : Sheet). answerTo s b (cellsOf x)) (fetched.Refused 11 0))) (sym is ∙ h),
-      ap (onChecked (λ _ _. b) (λ (g : Globals). nth (sheetsOf s) n (λ (x : Sheet). bufferTo s b (cellsOf x)) b)) (sym is ∙ h),
-    );
-  }
+  answer-by : (x : Checked) → r ≡ x → onChecked fetched.Refused (λ (g : Globals). nth (sheetsOf s) n (λ (x : Sheet). answerTo s b (cellsOf x)) (fetched.Refused 11 0)) x ≡ answerOf s n row column b
+  unfolding answerOf
+  answer-by x h = ap (onChecked fetched.Refused (λ (g : Globals). nth (sheetsOf s) n (λ (x : Sheet). answerTo s b (cellsOf x)) (fetched.Refused 11 0))) (sym h ∙ is)
 
-  module _ (g : Globals) (h : r ≡ Right g) where
-    abbrev toAnswer : List ℕ → Sought → Fetched
-    toAnswer b (sought.Sheet o p k) = answerTo s b (cellsAt row column (listedFrom s (startBy (length s) p k)))
-    toAnswer b sought.Absent = fetched.Refused 11 0
+  buffer-by : (x : Checked) → r ≡ x → onChecked (λ _ _. b) (λ (g : Globals). nth (sheetsOf s) n (λ (x : Sheet). bufferTo s b (cellsOf x)) b) x ≡ bufferAfter s n row column b
+  unfolding bufferAfter
+  buffer-by x h = ap (onChecked (λ _ _. b) (λ (g : Globals). nth (sheetsOf s) n (λ (x : Sheet). bufferTo s b (cellsOf x)) b)) (sym h ∙ is)
 
-    abbrev toBuffer : List ℕ → Sought → List ℕ
-    toBuffer b (sought.Sheet o p k) = bufferTo s b (cellsAt row column (listedFrom s (startBy (length s) p k)))
-    toBuffer b sought.Absent = b
+  pub answer-wrong : (m o : ℕ) → r ≡ Wrong m o → fetched.Refused m o ≡ answerOf s n row column b
+  answer-wrong m o h = answer-by (Wrong m o) h
 
-    module _ (q x : Sought) (i : q ≡ nth (sheetsOf s) n foundSheet sought.Absent) (j : q ≡ x) where
-      answer-is : (b : List ℕ) → answerOf s n row column b ≡ toAnswer b x
-      unfolding answerOf
-      answer-is b =
-          ap (onChecked fetched.Refused (λ (g : Globals). nth (sheetsOf s) n (λ (x : Sheet). answerTo s b (cellsOf x)) (fetched.Refused 11 0))) (sym is ∙ h)
-          ∙ to-sought (λ (x : Sheet). answerTo s b (cellsOf x)) (toAnswer b) (λ x. refl) (sheetsOf s) n
-          ∙ ap (toAnswer b) (sym i ∙ j)
+  pub buffer-wrong : (m o : ℕ) → r ≡ Wrong m o → b ≡ bufferAfter s n row column b
+  buffer-wrong m o h = buffer-by (Wrong m o) h
 
-      buffer-is : (b : List ℕ) → bufferAfter s n row column b ≡ toBuffer b x
-      unfolding bufferAfter
-      buffer-is b =
-          ap (onChecked (λ _ _. b) (λ (g : Globals). nth (sheetsOf s) n (λ (x : Sheet). bufferTo s b (cellsOf x)) b)) (sym is ∙ h)
-          ∙ to-sought (λ (x : Sheet). bufferTo s b (cellsOf x)) (toBuffer b) (λ x. refl) (sheetsOf s) n
-          ∙ ap (toBuffer b) (sym i ∙ j)
+  module _ (g : Globals) (h : r ≡ Right g) (q : Sought) (i : q ≡ nth (sheetsOf s) n foundSheet sought.Absent) where
+    abbrev toAnswer : Sought → Fetched
+    toAnswer (sought.Sheet o p k) = answerTo s b (cellsAt row column (listedFrom s (startBy (length s) p k)))
+    toAnswer sought.Absent = fetched.Refused 11 0
 
-      whole-by : (y : Spot) → Within s y → ((b : List ℕ) → Fetches s b (toAnswer b x) (toBuffer b x) y) → Whole s n row column y
-      whole-by (Text f e) w k = record { within = w; fetches = λ b. (answer-is b ∙ k b .0, buffer-is b ∙ k b .1) }
-      whole-by (Refused m o) w k = record { within = w; fetches = λ b. (answer-is b ∙ k b .0, buffer-is b ∙ k b .1) }
+    abbrev toBuffer : Sought → List ℕ
+    toBuffer (sought.Sheet o p k) = bufferTo s b (cellsAt row column (listedFrom s (startBy (length s) p k)))
+    toBuffer sought.Absent = b
 
-    module _ (q : Sought) (i : q ≡ nth (sheetsOf s) n foundSheet sought.Absent) where
-      pub whole-absent : q ≡ sought.Absent → (y : Spot) → y ≡ Refused 11 0 → Whole s n row column y
-      whole-absent j y e = subst⁻¹ (Whole s n row column) e (whole-by q sought.Absent i j (Refused 11 0) tt (λ b. (refl, refl)))
+    answer-is : (x : Sought) → q ≡ x → toAnswer x ≡ answerOf s n row column b
+    answer-is x j = ap toAnswer (sym j ∙ i) ∙ sym (to-sought (λ (x : Sheet). answerTo s b (cellsOf x)) toAnswer (λ x. refl) (sheetsOf s) n) ∙ answer-by (Right g) h
 
-      pub whole-there : (o p k : ℕ) (v : Place) (y : Spot) → q ≡ sought.Sheet o p k → v ≡ startBy (length s) p k → First s (cellsAt row column (listedFrom s (placeAt (v .at) 0))) y → Whole s n row column y
-      whole-there o p k v y j e f =
-          let t : placeAt (v .at) 0 ≡ startBy (length s) p k = ap (λ (x : Place). placeAt (x .at) 0) e ∙ start-place (length s) p k in
-          let f′ : First s (cellsAt row column (listedFrom s (startBy (length s) p k))) y = subst (λ (x : Place). First s (cellsAt row column (listedFrom s x)) y) t f in
-          whole-by q (sought.Sheet o p k) i j y (f′ .within) (f′ .fetches)
+    buffer-is : (x : Sought) → q ≡ x → toBuffer x ≡ bufferAfter s n row column b
+    buffer-is x j = ap toBuffer (sym j ∙ i) ∙ sym (to-sought (λ (x : Sheet). bufferTo s b (cellsOf x)) toBuffer (λ x. refl) (sheetsOf s) n) ∙ buffer-by (Right g) h
 
-pub ruleset whole-laws = (whole-wrong, whole-absent, whole-there)
+    pub answer-absent : q ≡ sought.Absent → fetched.Refused 11 0 ≡ answerOf s n row column b
+    answer-absent j = answer-is sought.Absent j
 
--- ---- the fetch
-module _ (s : List ℕ) (n row column : ℕ) (r : Spot) (is : Whole s n row column r) where
-  module _ (f e : ℕ) (h : r ≡ Text f e) where
-    at-text : Whole s n row column (Text f e)
-    at-text = subst (Whole s n row column) h is
+    pub buffer-absent : q ≡ sought.Absent → b ≡ bufferAfter s n row column b
+    buffer-absent j = buffer-is sought.Absent j
 
-    pub text-within : e ≤ length s
-    text-within = at-text .within
+    pub answer-there : (o p k : ℕ) (y : Fetched) → q ≡ sought.Sheet o p k → y ≡ answerTo s b (cellsAt row column (listedFrom s (startBy (length s) p k))) → y ≡ answerOf s n row column b
+    answer-there o p k y j e = e ∙ answer-is (sought.Sheet o p k) j
 
-    pub text-answer : (b : List ℕ) (y : Fetched) → y ≡ fetchedOf (length b) (listOf (textOf s f e)) → y ≡ answerOf s n row column b
-    text-answer b y i = i ∙ sym (at-text .fetches b .0)
+    pub buffer-there : (o p k : ℕ) (a : List ℕ) → q ≡ sought.Sheet o p k → a ≡ bufferTo s b (cellsAt row column (listedFrom s (startBy (length s) p k))) → a ≡ bufferAfter s n row column b
+    buffer-there o p k a j e = e ∙ buffer-is (sought.Sheet o p k) j
 
-    pub text-buffer : (b b′ : List ℕ) → b′ ≡ bufferOf b (listOf (textOf s f e)) → b′ ≡ bufferAfter s n row column b
-    text-buffer b b′ i = i ∙ sym (at-text .fetches b .1)
+pub ruleset answer-laws = (answer-wrong, answer-absent, answer-there)
 
-  module _ (m o : ℕ) (h : r ≡ Refused m o) where
-    at-refused : Whole s n row column (Refused m o)
-    at-refused = subst (Whole s n row column) h is
-
-    pub refused-answer : (b : List ℕ) → fetched.Refused m o ≡ answerOf s n row column b
-    refused-answer b = sym (at-refused .fetches b .0)
-
-    pub refused-buffer : (b : List ℕ) → b ≡ bufferAfter s n row column b
-    refused-buffer b = sym (at-refused .fetches b .1)
-
-pub ruleset fetch-laws = (text-within, text-answer, text-buffer, refused-answer, refused-buffer)
+pub ruleset buffer-laws = (buffer-wrong, buffer-absent, buffer-there)

@@ -17,7 +17,7 @@ use Rattle.reading.specs.Reading.{listedOf, saysText, unitsOf}
 use Rattle.correction.specs.Correction.{cellsAt}
 
 -- the answer to a fetch into a buffer b, of the first of these cells
-abbrev pub answerTo : List ℕ → List ℕ → List Cell → Fetched
+unfoldable pub answerTo : List ℕ → List ℕ → List Cell → Fetched
 answerTo s b [] = Refused 11 0
 answerTo s b (c ∷ l) = pick (saysText (c .value)) (fetchedOf (length b) (unitsOf s c)) (Refused 11 0)
 
@@ -28,7 +28,7 @@ answerOf s n row column b =
     (checkedOf s 0)
 
 -- the buffer after it: the units, and after them what it held; all that it held where it is refused
-abbrev pub bufferTo : List ℕ → List ℕ → List Cell → List ℕ
+unfoldable pub bufferTo : List ℕ → List ℕ → List Cell → List ℕ
 bufferTo s b [] = b
 bufferTo s b (c ∷ l) = pick (saysText (c .value)) (bufferOf b (unitsOf s c)) b
 

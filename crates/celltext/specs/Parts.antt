@@ -11,7 +11,7 @@ use Rattle.cell.specs.declared.Cell.{Cell}
 use Rattle.textresult.specs.TextResult.{textOf}
 use Rattle.celltext.specs.declared.Spot.{Spot}
 use Rattle.celltext.specs.declared.Spot.the-variants.{Text, Refused}
-use Rattle.celltext.specs.CellText.{answerTo, answerOf, bufferTo, bufferAfter}
+use Rattle.celltext.specs.CellText.{answerTo, bufferTo}
 
 -- an answer and a buffer are those of a fetch at the spot
 abbrev pub Fetches : List ℕ → List ℕ → Fetched → List ℕ → Spot → Type 0
@@ -26,8 +26,3 @@ Within s (Refused n o) = Unit {0}
 pub record First (s : List ℕ) (l : List Cell) (r : Spot) : Type 0 where
   pub within : Within s r
   pub fetches : (b : List ℕ) → Fetches s b (answerTo s b l) (bufferTo s b l) r
-
--- the spot of the cell of an address in sheet n
-pub record Whole (s : List ℕ) (n row column : ℕ) (r : Spot) : Type 0 where
-  pub within : Within s r
-  pub fetches : (b : List ℕ) → Fetches s b (answerOf s n row column b) (bufferAfter s n row column b) r

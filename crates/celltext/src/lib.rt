@@ -1,10 +1,12 @@
 // Fetch the text result of a cell into a lent buffer of 16-bit units.
 ghost use mathlib.Core.Path.{_≡_};
+ghost use lib.ListN.{length};
 ghost use Rattle.reading.specs.Cells.{placeAt, listedFrom};
+ghost use Rattle.reading.specs.Reading.{startBy};
 ghost use Rattle.scan.specs.Scan.{scanOf};
 ghost use Rattle.correction.specs.Correction.{cellsAt};
-ghost use Rattle.celltext.specs.CellText.{answerOf, bufferAfter};
-ghost use Rattle.celltext.specs.Parts.{First, Whole};
+ghost use Rattle.celltext.specs.CellText.{answerTo, answerOf, bufferTo, bufferAfter};
+ghost use Rattle.celltext.specs.Parts.{First};
 use listing::Sought;
 use reading::Outside;
 use record::Header;
@@ -97,33 +99,49 @@ fn find_first(s: &[u8], from: usize, row: u32, column: u32) -> Spot
     }
 }
 
-// The first cell of an address in a sheet.
-fn spot_of(s: &[u8], sheet: u32, row: u32, column: u32) -> Spot
-    ensures { λ r. ⌜ Whole (now (s .entry)) sheet row column r ⌝ }
+// The first cell of an address in the sheet that a BOUNDSHEET names.
+fn spot_in(s: &[u8], position: u32, kind: u32, row: u32, column: u32) -> Spot
+    ensures { λ r. ⌜ First (now (s .entry)) (cellsAt row column (listedFrom (now (s .entry)) (startBy (length (now (s .entry))) position kind))) r ⌝ }
 {
-    match workbook::check_with(s, 0) {
-        Checked::Wrong { number, offset } => Spot::Refused { number, offset },
-        Checked::Right(_) => match listing::find_sheet(s, sheet) {
-            Sought::Absent => absent(),
-            Sought::Sheet {
-                header: _,
-                position,
-                kind,
-            } => {
-                let start = listing::start_of(s, position, kind);
-                find_first(s, start.at, row, column)
-            }
-        },
+    let start = listing::start_of(s, position, kind);
+    find_first(s, start.at, row, column)
+}
+
+// The units of its text result at the front of the buffer; the answer says how many.
+pub fn fetch_in(
+    s: &[u8],
+    position: u32,
+    kind: u32,
+    row: u32,
+    column: u32,
+    buf: &mut [u16],
+) -> Fetched
+    ensures { λ r. ⌜ r ≡ answerTo (now (s .entry)) (now (buf .entry)) (cellsAt row column (listedFrom (now (s .entry)) (startBy (length (now (s .entry))) position kind))) ⌝ }
+    ensures { λ r. ⌜ now (buf .exit) ≡ bufferTo (now (s .entry)) (now (buf .entry)) (cellsAt row column (listedFrom (now (s .entry)) (startBy (length (now (s .entry))) position kind))) ⌝ }
+{
+    match spot_in(s, position, kind, row, column) {
+        Spot::Refused { number, offset } => Fetched::Refused { number, offset },
+        Spot::Text { at, end } => textresult::fetch_text(s, at, end, buf),
     }
 }
 
-// The units of the text result of a cell at the front of the buffer; the answer says how many.
+// The same in sheet n, after the check.
 pub fn fetch_cell(s: &[u8], sheet: u32, row: u32, column: u32, buf: &mut [u16]) -> Fetched
     ensures { λ r. ⌜ r ≡ answerOf (now (s .entry)) sheet row column (now (buf .entry)) ⌝ }
     ensures { λ r. ⌜ now (buf .exit) ≡ bufferAfter (now (s .entry)) sheet row column (now (buf .entry)) ⌝ }
 {
-    match spot_of(s, sheet, row, column) {
-        Spot::Refused { number, offset } => Fetched::Refused { number, offset },
-        Spot::Text { at, end } => textresult::fetch_text(s, at, end, buf),
+    match workbook::check_with(s, 0) {
+        Checked::Wrong { number, offset } => Fetched::Refused { number, offset },
+        Checked::Right(_) => match listing::find_sheet(s, sheet) {
+            Sought::Absent => Fetched::Refused {
+                number: 11,
+                offset: 0,
+            },
+            Sought::Sheet {
+                header: _,
+                position,
+                kind,
+            } => fetch_in(s, position, kind, row, column, buf),
+        },
     }
 }

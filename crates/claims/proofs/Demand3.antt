@@ -1,5 +1,5 @@
 -- Demand 3. Assumes nothing.
-use Prim.Native.Nat.{ℕ, zero, suc, _+_, _/_, _%_, _^_, _<_}
+use Prim.Native.Nat.{ℕ, zero, suc, _+_, _/_, _%_, _^_, _≤_, _<_}
 use mathlib.Core.Path.{_≡_, refl, sym, ap, ap₂, _∙_, subst}
 use mathlib.Core.List.{List, [], _∷_, map}
 use mathlib.Core.Logic.{_⊎_, inl, inr, _↔_}
@@ -8,7 +8,7 @@ use native.Mathlib.Omega.{arith}
 use lib.Dec.{ltb, eqb}
 use lib.ListN.{length, getD}
 use lib.Seq.{sets, length-sets}
-use borrow.Author.Tests.{le-ltb, ltb-false, leb-false, lt-leb}
+use borrow.Author.Tests.{le-ltb, ltb-true, ltb-false, leb-false, lt-leb}
 use Rattle.walk.specs.Choice.{pick}
 use Rattle.walk.proofs.Choice.{never, pick-by}
 use Rattle.walk.specs.Items.{nth}
@@ -39,9 +39,10 @@ use Rattle.globals.specs.Sheets.{sheetsOf}
 use Rattle.workbook.specs.declared.Checked.{Checked}
 use Rattle.workbook.specs.declared.Checked.the-variants.{Right, Wrong}
 use Rattle.workbook.specs.declared.Answer.the-variants.{Passed}
-use Rattle.workbook.specs.Check.{checkedOf, answered, checkOf, onChecked}
+use Rattle.workbook.specs.Check.{checkedOf, answered, onChecked}
 use Rattle.reading.specs.Reading.{startOf, listedOf, CellReading, SheetReading, Reading, readingOf}
-use Rattle.correction.specs.Correction.{Correction, refuses, writes, cellsAt, onPlan, onCells, correctionOf, answerOf, streamAfter}
+use Rattle.correction.specs.Correction.{Correction, refuses, writes, cellsAt, onPlan, onCells, noSheet, correctionOf, answerOf, streamAfter}
+use Rattle.correction.proofs.Laws.{sheet-lent, sheet-missing}
 use Rattle.chain.specs.Chain.{Nth}
 use Rattle.chain.proofs.Chain.{nth-is, nth-missing, nth-either}
 use Rattle.upheld.specs.Granted.{Granted}
@@ -49,36 +50,36 @@ use Rattle.upheld.proofs.Granted.{granted, listed-only, field-high}
 use Rattle.upheld.proofs.Upheld.{upheld, sheets-stay}
 use Rattle.reread.specs.Replaced.{hasAddress, withValue, replacedCell, replacedSheet, onNth, valuesAt}
 use Rattle.reread.proofs.Reading.{reads-replaced, new-after}
-use Rattle.claims.specs.Demand3.{Corrects, Only, One, HoldsNew, OthersStay, passed, Passes, ReadsNew, OneAfter, Granted as OfGranted, spotOf, ofCells, SpotsStay, textOf, TextsStay, takes, Unfit, Refusal, checked, no-sheet, no-cell, many, kind, value, RefusedExactly, RefusedKeeps, PackedExactly}
+use Rattle.claims.specs.Demand3.{Corrects, Only, One, HoldsNew, OthersStay, passed, Passes, ReadsNew, OneAfter, Granted as OfGranted, spotOf, ofCells, SpotsStay, textOf, TextsStay, takes, Unfit, Refusal, checked, lent-sheet, no-sheet, no-cell, many, kind, value, RefusedExactly, RefusedKeeps, PackedExactly}
 
 -- ---- a granted correction: what was written, and into which cell
-pub record Made (s : List ℕ) (n row column : ℕ) (v : NewValue) (t : List ℕ) : Type 0 where
+pub record Made (s : List ℕ) (lent sheets n row column : ℕ) (v : NewValue) (t : List ℕ) : Type 0 where
   pub kind : Field
   pub place : ℕ
   pub number : ℕ
-  pub is : correctionOf s n row column v ≡ writes kind place number
+  pub is : correctionOf s lent sheets n row column v ≡ writes kind place number
   pub after : t ≡ streamAfter s (writes kind place number)
-  pub given : Granted s n row column v kind place number
+  pub given : Granted s lent n row column v kind place number
 
-module _ {s : List ℕ} {n row column : ℕ} {v : NewValue} {t : List ℕ} where
-  pub made : Corrects s n row column v changed.Granted t → Made s n row column v t
-  made h = by (correctionOf s n row column v) refl
+module _ {s : List ℕ} {lent sheets n row column : ℕ} {v : NewValue} {t : List ℕ} where
+  pub made : Corrects s lent sheets n row column v changed.Granted t → Made s lent sheets n row column v t
+  made h = by (correctionOf s lent sheets n row column v) refl
     where
-      by : (x : Correction) → correctionOf s n row column v ≡ x → Made s n row column v t
+      by : (x : Correction) → correctionOf s lent sheets n row column v ≡ x → Made s lent sheets n row column v t
       by (refuses m o) i = let e : changed.Granted ≡ changed.Refused m o = h .answer ∙ ap answerOf i in never (cc)
-      by (writes f p b) i = record { kind = f; place = p; number = b; is = i; after = h .after ∙ ap (streamAfter s) i; given = granted s n row column v f p b i }
+      by (writes f p b) i = record { kind = f; place = p; number = b; is = i; after = h .after ∙ ap (streamAfter s) i; given = granted s lent sheets n row column v f p b i }
 
-  pub one : (m : Made s n row column v t) {P : Cell → Type 0} → P (m .given .cell) → One s n row column P
+  pub one : (m : Made s lent sheets n row column v t) {P : Cell → Type 0} → P (m .given .cell) → One s lent n row column P
   one m holds =
       let g = m .given in
       record { cell = g .cell; unique = g .globals .unique; only = record { globals = g .globals; passes = g .passes; count = refl; sheet = g .sheet; nth = g .nth; only = g .only }; holds = holds }
 
   -- the new stream: the old one with the cell's value field written
-  written : (m : Made s n row column v t) → t ≡ sets s (m .given .cell .field) (bytesOf (widthOf (m .given .cell .kind)) (m .number))
+  written : (m : Made s lent sheets n row column v t) → t ≡ sets s (m .given .cell .field) (bytesOf (widthOf (m .given .cell .kind)) (m .number))
   written m = m .after ∙ (let k = sym (m .given .kind) in let p = sym (m .given .field) in λ i. sets s (p i) (bytesOf (widthOf (k i)) (m .number)))
 
 pub holds-new : HoldsNew
-holds-new s n row column v t h =
+holds-new s lent sheets n row column v t h =
     let m = made h in
     let given = m .given in
     let c = given .cell in
@@ -91,7 +92,7 @@ holds-new s n row column v t h =
     ∙ ap (valueOf (c .kind)) (num-stored (widthOf (c .kind)) (m .number) s (c .field) (omega arith) (says .small)) ∙ says .value)
 
 pub others-stay : OthersStay
-others-stay s n row column v t h =
+others-stay s lent sheets n row column v t h =
     let m = made h in
     let c = m .given .cell in
     one m (
@@ -100,30 +101,29 @@ others-stay s n row column v t h =
     )
 
 pub passes : Passes
-unfolding checkOf
-passes s n row column v t h =
+passes s lent sheets n row column v t h =
     let m = made h in
     let given = m .given in
     let t′ : List ℕ = streamAfter s (writes (m .kind) (m .place) (m .number)) in
-    let same = upheld s n row column v (m .kind) (m .place) (m .number) (h .held) (m .is) in
-    let old : checkOf s ≡ Passed (length (sheetsOf s)) (given .globals .unique) = ap (answered s) (given .passes) in
-    let new : checkOf t′ ≡ Passed (length (sheetsOf s)) (given .globals .unique) = ap (answered t′) (same ∙ given .passes) ∙ ap (λ (l : List Sheet). Passed (length l) (given .globals .unique)) (sym (sheets-stay s n row column v (m .kind) (m .place) (m .number) (h .held) given)) in
-    let new-after : checkOf t ≡ Passed (length (sheetsOf s)) (given .globals .unique) = ap checkOf (m .after) ∙ new in
+    let same = upheld s lent sheets n row column v (m .kind) (m .place) (m .number) (h .held) (m .is) in
+    let old : answered s (checkedOf s lent) ≡ Passed (length (sheetsOf s)) (given .globals .unique) = ap (answered s) (given .passes) in
+    let new : answered t′ (checkedOf t′ lent) ≡ Passed (length (sheetsOf s)) (given .globals .unique) = ap (answered t′) (same ∙ given .passes) ∙ ap (λ (l : List Sheet). Passed (length l) (given .globals .unique)) (sym (sheets-stay s lent n row column v (m .kind) (m .place) (m .number) (h .held) given)) in
+    let new-after : answered t (checkedOf t lent) ≡ Passed (length (sheetsOf s)) (given .globals .unique) = ap (λ (x : List ℕ). answered x (checkedOf x lent)) (m .after) ∙ new in
     one m (ap passed new-after, new-after ∙ sym old)
 
 pub reads-new : ReadsNew
-reads-new s n row column v t h =
+reads-new s lent sheets n row column v t h =
     let m = made h in
-    one m (ap readingOf (m .after) ∙ reads-replaced s n row column v (m .kind) (m .place) (m .number) (h .held) (m .is))
+    one m (ap (λ (x : List ℕ). readingOf x lent) (m .after) ∙ reads-replaced s lent sheets n row column v (m .kind) (m .place) (m .number) (h .held) (m .is))
 
 pub one-after : OneAfter
-one-after s n row column v t h =
+one-after s lent sheets n row column v t h =
     let m = made h in
-    one m (ap (λ (x : List ℕ). valuesAt n row column (readingOf x)) (m .after) ∙ new-after s n row column v (m .kind) (m .place) (m .number) (h .held) (m .is))
+    one m (ap (λ (x : List ℕ). valuesAt n row column (readingOf x lent)) (m .after) ∙ new-after s lent sheets n row column v (m .kind) (m .place) (m .number) (h .held) (m .is))
 
 -- what is replaced is a value: whatever else is said of a cell stays
 module _ {A : Type 0} (f : CellReading → A) (same : (v : CellValue) (c : CellReading) → f (withValue v c) ≡ f c) where
-  cells-stay : (row column : ℕ) (v : CellValue) (l : List CellReading) → map f (map (replacedCell row column v) l) ≡ map f l
+  pub cells-stay : (row column : ℕ) (v : CellValue) (l : List CellReading) → map f (map (replacedCell row column v) l) ≡ map f l
   cells-stay row column v [] = refl
   cells-stay row column v (c ∷ l) =
       ap₂ (λ (x : A) (y : List A). x ∷ y)
@@ -135,14 +135,14 @@ module _ {A : Type 0} (f : CellReading → A) (same : (v : CellValue) (c : CellR
   sheets-same zero row column v (x ∷ l) = ap (λ (y : List A). y ∷ ofCells f l) (cells-stay row column v (x .cells))
   sheets-same (suc n) row column v (x ∷ l) = ap (λ (y : List (List A)). map f (x .cells) ∷ y) (sheets-same n row column v l)
 
-  all-stay : OfGranted (λ s n row column v c t. ofCells f (readingOf t .sheets) ≡ ofCells f (readingOf s .sheets))
-  all-stay s n row column v t h =
-      let read = reads-new s n row column v t h in
+  all-stay : OfGranted (λ s lent n row column v c t. ofCells f (readingOf t lent .sheets) ≡ ofCells f (readingOf s lent .sheets))
+  all-stay s lent sheets n row column v t h =
+      let read = reads-new s lent sheets n row column v t h in
       record {
         cell = read .cell;
         unique = read .unique;
         only = read .only;
-        holds = ap (λ (r : Reading). ofCells f (r .sheets)) (read .holds) ∙ sheets-same n row column (newOf v) (readingOf s .sheets);
+        holds = ap (λ (r : Reading). ofCells f (r .sheets)) (read .holds) ∙ sheets-same n row column (newOf v) (readingOf s lent .sheets);
       }
 
 pub spots-stay : SpotsStay
@@ -233,9 +233,9 @@ settles StoredResult (Truth t) unique held = untaken
 settles StoredResult (Error e) unique held = untaken
 
 -- ---- the correction
-module _ (s : List ℕ) (n row column : ℕ) (v : NewValue) (held : Held v) where
+module _ (s : List ℕ) (lent sheets n row column : ℕ) (v : NewValue) (held : Held v) where
   abbrev Met : ℕ → ℕ → Type 0
-  Met m o = Refusal s n row column v m o
+  Met m o = Refusal s lent sheets n row column v m o
 
   same-met : {a b m o : ℕ} → refuses a b ≡ refuses m o → Met a b → Met m o
   same-met {a} {b} {m} {o} e x =
@@ -243,45 +243,53 @@ module _ (s : List ℕ) (n row column : ℕ) (v : NewValue) (held : Held v) wher
       let j : b ≡ o = cc in
       subst (λ (k : ℕ). Met k o) i (subst (λ (k : ℕ). Met a k) j x)
 
-  row-met : (c : Cell) (u m o : ℕ) → Only s n row column c u → Row (takes (c .kind) v) (Unfit (c .kind) u v) m o → Met m o
+  row-met : (c : Cell) (u m o : ℕ) → Only s lent n row column c u → Row (takes (c .kind) v) (Unfit (c .kind) u v) m o → Met m o
   row-met c u m o i (by-kind e) = kind i e
   row-met c u m o i (by-value e x) = value i e x
 
-  plan-met : (c : Cell) (u m o : ℕ) → Only s n row column c u → (p : Plan) → planOf (c .kind) v u ≡ p → onPlan c p ≡ refuses m o → Met m o
+  plan-met : (c : Cell) (u m o : ℕ) → Only s lent n row column c u → (p : Plan) → planOf (c .kind) v u ≡ p → onPlan c p ≡ refuses m o → Met m o
   plan-met c u m o i (plan.Put b) e h = never (cc)
   plan-met c u m o i (plan.Refused a b) e h = same-met h (row-met c u a b i (settles (c .kind) v u held .met a b e))
 
-  module _ (g : Globals) (right : checkedOf s 0 ≡ Right g) where
+  module _ (g : Globals) (right : checkedOf s lent ≡ Right g) where
     cells-met : (m o : ℕ) (x : Sheet) → Nth (sheetsOf s) n x → (l : List Cell) → cellsAt row column (listedOf s x) ≡ l → onCells v (g .unique) l ≡ refuses m o → Met m o
     cells-met m o x i [] e h = same-met h (no-cell right i e)
     cells-met m o x i (c ∷ []) e h =
         plan-met c (g .unique) m o (record { globals = g; passes = right; count = refl; sheet = x; nth = i; only = e }) (planOf (c .kind) v (g .unique)) refl h
     cells-met m o x i (c ∷ d ∷ l) e h = same-met h (many right i e)
 
-  checked-met : (m o : ℕ) (k : Checked) → checkedOf s 0 ≡ k
-      → onChecked refuses (λ (g : Globals). nth (sheetsOf s) n (λ (x : Sheet). onCells v (g .unique) (cellsAt row column (listedOf s x))) (refuses 11 0)) k ≡ refuses m o → Met m o
+  sheet-met : (g : Globals) → checkedOf s lent ≡ Right g → length (sheetsOf s) ≤ n → Met (noSheet sheets n) 0
+  unfolding noSheet
+  sheet-met g e i = pick-by (λ (k : ℕ). Met k 0) (ltb n sheets) (λ h. lent-sheet e i (ltb-true n sheets h)) (λ h. no-sheet e i (ltb-false n sheets h))
+
+  checked-met : (m o : ℕ) (k : Checked) → checkedOf s lent ≡ k
+      → onChecked refuses (λ (g : Globals). nth (sheetsOf s) n (λ (x : Sheet). onCells v (g .unique) (cellsAt row column (listedOf s x))) (refuses (noSheet sheets n) 0)) k ≡ refuses m o → Met m o
   checked-met m o (Right g) e h =
-      nth-either (λ (x : Sheet). onCells v (g .unique) (cellsAt row column (listedOf s x))) (refuses 11 0) (refuses m o) (Met m o) (sheetsOf s) n
+      nth-either (λ (x : Sheet). onCells v (g .unique) (cellsAt row column (listedOf s x))) (refuses (noSheet sheets n) 0) (refuses m o) (Met m o) (sheetsOf s) n
       (λ x i j. cells-met g e m o x i (cellsAt row column (listedOf s x)) refl j)
-      (λ i j. same-met j (no-sheet e i)) h
+      (λ i j. same-met j (sheet-met g e i)) h
   checked-met m o (Wrong a b) e h = same-met h (checked e)
 
   -- what a correction comes to in a stream that passes
-  on-right : (g : Globals) → checkedOf s 0 ≡ Right g → correctionOf s n row column v ≡ nth (sheetsOf s) n (λ (x : Sheet). onCells v (g .unique) (cellsAt row column (listedOf s x))) (refuses 11 0)
+  on-right : (g : Globals) → checkedOf s lent ≡ Right g → correctionOf s lent sheets n row column v ≡ nth (sheetsOf s) n (λ (x : Sheet). onCells v (g .unique) (cellsAt row column (listedOf s x))) (refuses (noSheet sheets n) 0)
   unfolding correctionOf
-  on-right g e = ap (onChecked refuses (λ (g : Globals). nth (sheetsOf s) n (λ (x : Sheet). onCells v (g .unique) (cellsAt row column (listedOf s x))) (refuses 11 0))) e
+  on-right g e = ap (onChecked refuses (λ (g : Globals). nth (sheetsOf s) n (λ (x : Sheet). onCells v (g .unique) (cellsAt row column (listedOf s x))) (refuses (noSheet sheets n) 0))) e
 
-  on-sheet : (g : Globals) (x : Sheet) → checkedOf s 0 ≡ Right g → Nth (sheetsOf s) n x → correctionOf s n row column v ≡ onCells v (g .unique) (cellsAt row column (listedOf s x))
-  on-sheet g x e i = on-right g e ∙ nth-is (λ (x : Sheet). onCells v (g .unique) (cellsAt row column (listedOf s x))) (refuses 11 0) i
+  on-sheet : (g : Globals) (x : Sheet) → checkedOf s lent ≡ Right g → Nth (sheetsOf s) n x → correctionOf s lent sheets n row column v ≡ onCells v (g .unique) (cellsAt row column (listedOf s x))
+  on-sheet g x e i = on-right g e ∙ nth-is (λ (x : Sheet). onCells v (g .unique) (cellsAt row column (listedOf s x))) (refuses (noSheet sheets n) 0) i
 
-  on-only : (c : Cell) (u : ℕ) → Only s n row column c u → correctionOf s n row column v ≡ onPlan c (planOf (c .kind) v u)
+  on-missing : (g : Globals) → checkedOf s lent ≡ Right g → length (sheetsOf s) ≤ n → correctionOf s lent sheets n row column v ≡ refuses (noSheet sheets n) 0
+  on-missing g e i = on-right g e ∙ nth-missing (λ (x : Sheet). onCells v (g .unique) (cellsAt row column (listedOf s x))) (refuses (noSheet sheets n) 0) (sheetsOf s) n i
+
+  on-only : (c : Cell) (u : ℕ) → Only s lent n row column c u → correctionOf s lent sheets n row column v ≡ onPlan c (planOf (c .kind) v u)
   on-only c u i =
       on-sheet (i .globals) (i .sheet) (i .passes) (i .nth) ∙ ap (onCells v (i .globals .unique)) (i .only) ∙ ap (λ (k : ℕ). onPlan c (planOf (c .kind) v k)) (i .count)
 
-  met-refused : (m o : ℕ) → Met m o → correctionOf s n row column v ≡ refuses m o
+  met-refused : (m o : ℕ) → Met m o → correctionOf s lent sheets n row column v ≡ refuses m o
   unfolding correctionOf
-  met-refused m o (checked e) = ap (onChecked refuses (λ (g : Globals). nth (sheetsOf s) n (λ (x : Sheet). onCells v (g .unique) (cellsAt row column (listedOf s x))) (refuses 11 0))) e
-  met-refused m o (no-sheet {g = g} e i) = on-right g e ∙ nth-missing (λ (x : Sheet). onCells v (g .unique) (cellsAt row column (listedOf s x))) (refuses 11 0) (sheetsOf s) n i
+  met-refused m o (checked e) = ap (onChecked refuses (λ (g : Globals). nth (sheetsOf s) n (λ (x : Sheet). onCells v (g .unique) (cellsAt row column (listedOf s x))) (refuses (noSheet sheets n) 0))) e
+  met-refused m o (lent-sheet {g = g} e i l) = on-missing g e i ∙ ap (λ (k : ℕ). refuses k 0) (sym (sheet-lent sheets n refl l))
+  met-refused m o (no-sheet {g = g} e i l) = on-missing g e i ∙ ap (λ (k : ℕ). refuses k 0) (sym (sheet-missing sheets n refl l))
   met-refused m o (no-cell {g = g} {x = x} e i j) = on-sheet g x e i ∙ ap (onCells v (g .unique)) j
   met-refused m o (many {g = g} {x = x} e i j) = on-sheet g x e i ∙ ap (onCells v (g .unique)) j
   met-refused m o (kind {c = c} {unique = u} i e) = on-only c u i ∙ ap (onPlan c) (settles (c .kind) v u held .kind e)
@@ -293,22 +301,22 @@ refused-by (writes f p b) m o h = never (cc)
 
 pub refused-as-said : RefusedExactly
 unfolding correctionOf
-refused-as-said s n row column v r t h m o = (
-  λ e. checked-met s n row column v (h .held) m o (checkedOf s 0) refl (refused-by (correctionOf s n row column v) m o (sym (h .answer) ∙ e)),
-  λ x. h .answer ∙ ap answerOf (met-refused s n row column v (h .held) m o x),
+refused-as-said s lent sheets n row column v r t h m o = (
+  λ e. checked-met s lent sheets n row column v (h .held) m o (checkedOf s lent) refl (refused-by (correctionOf s lent sheets n row column v) m o (sym (h .answer) ∙ e)),
+  λ x. h .answer ∙ ap answerOf (met-refused s lent sheets n row column v (h .held) m o x),
 )
 
 pub refused-keeps : RefusedKeeps
-refused-keeps s n row column v m o t h = h .after ∙ ap (streamAfter s) (refused-by (correctionOf s n row column v) m o (sym (h .answer)))
+refused-keeps s lent sheets n row column v m o t h = h .after ∙ ap (streamAfter s) (refused-by (correctionOf s lent sheets n row column v) m o (sym (h .answer)))
 
 refused-plan : (c : Cell) (p : Plan) → onPlan c p ≡ refuses 18 0 → p ≡ plan.Refused 18 0
 refused-plan c (plan.Put k) h = never (cc)
 refused-plan c (plan.Refused m o) h = let i : m ≡ 18 = cc in let j : o ≡ 0 = cc in rw (i, j) refl
 
 pub packed-as-said : PackedExactly
-packed-as-said s n row column c u x r t h i packed f =
-    let asked : correctionOf s n row column (Number x) ≡ onPlan c (planOf RkWord (Number x) u) = on-only s n row column (Number x) (h .held) c u i ∙ ap (λ (k : Field). onPlan c (planOf k (Number x) u)) packed in
+packed-as-said s lent sheets n row column c u x r t h i packed f =
+    let asked : correctionOf s lent sheets n row column (Number x) ≡ onPlan c (planOf RkWord (Number x) u) = on-only s lent sheets n row column (Number x) (h .held) c u i ∙ ap (λ (k : Field). onPlan c (planOf k (Number x) u)) packed in
     let exactly = unpacked x u (h .held) in (
-      λ e. exactly .0 (refused-plan c (planOf RkWord (Number x) u) (sym asked ∙ refused-by (correctionOf s n row column (Number x)) 18 0 (sym (h .answer) ∙ e))),
+      λ e. exactly .0 (refused-plan c (planOf RkWord (Number x) u) (sym asked ∙ refused-by (correctionOf s lent sheets n row column (Number x)) 18 0 (sym (h .answer) ∙ e))),
       λ none. h .answer ∙ ap answerOf (asked ∙ ap (onPlan c) (exactly .1 none)),
     )

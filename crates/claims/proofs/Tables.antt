@@ -73,12 +73,12 @@ module _ (s s′ : List ℕ) (len : length s ≡ length s′) (to : ℕ) (same :
       by (inr l) = table-kept (g .table) l (subst (Table s (g .table)) q h)
 
 -- ---- a granted correction
-module _ (s : List ℕ) (n row column : ℕ) (v : NewValue) (f : Field) (p b : ℕ) (held : Held v) (h : correctionOf s n row column v ≡ writes f p b) where
+module _ (s : List ℕ) (lent sheets n row column : ℕ) (v : NewValue) (f : Field) (p b : ℕ) (held : Held v) (h : correctionOf s lent sheets n row column v ≡ writes f p b) where
   abbrev s′ : List ℕ
   s′ = streamAfter s (writes f p b)
 
-  r : Granted s n row column v f p b
-  r = granted s n row column v f p b h
+  r : Granted s lent n row column v f p b
+  r = granted s lent sheets n row column v f p b h
 
   abbrev g : Globals
   g = r .globals
@@ -87,7 +87,7 @@ module _ (s : List ℕ) (n row column : ℕ) (v : NewValue) (f : Field) (p b : �
   len = corrected r held .size
 
   tabled : Tabled s g
-  tabled = globals-tabled s 0 g (passing s 0 g (r .passes) .globals)
+  tabled = globals-tabled s lent g (passing s lent g (r .passes) .globals)
 
   same : Same s s′ 0 (g .at + 2)
   same = let c = corrected r held in let l = reach-ahead s (reach-found r) in let k = inside c in same-before c 0 (g .at + 2) (omega arith)
@@ -98,70 +98,70 @@ module _ (s : List ℕ) (n row column : ℕ) (v : NewValue) (f : Field) (p b : �
   strings-same : stringsAt s′ (g .table) ≡ stringsAt s (g .table)
   strings-same = strings-kept s s′ len (g .at) same g refl tabled
 
-  passes′ : checkedOf s′ 0 ≡ Right g
-  passes′ = upheld s n row column v f p b held h ∙ r .passes
+  passes′ : checkedOf s′ lent ≡ Right g
+  passes′ = upheld s lent sheets n row column v f p b held h ∙ r .passes
 
   module _ (t : List ℕ) where
-    fill-same : fillOf s′ 0 t ≡ fillOf s 0 t
+    fill-same : fillOf s′ lent t ≡ fillOf s lent t
     unfolding fillOf
     fill-same =
         ap (onChecked Refused (λ (x : Globals). filledOf (length t) (placesAt s′ (x .table)))) passes′
         ∙ ap (filledOf (length t)) places-same
         ∙ ap (onChecked Refused (λ (x : Globals). filledOf (length t) (placesAt s (x .table)))) (sym (r .passes))
 
-    after-same : tableAfter s′ 0 t ≡ tableAfter s 0 t
+    after-same : tableAfter s′ lent t ≡ tableAfter s lent t
     unfolding tableAfter
     after-same =
         ap (onChecked (λ _ _. t) (λ (x : Globals). places.tableOf t (placesAt s′ (x .table)))) passes′
         ∙ ap (places.tableOf t) places-same
         ∙ ap (onChecked (λ _ _. t) (λ (x : Globals). places.tableOf t (placesAt s (x .table)))) (sym (r .passes))
 
-    module _ (k : ℕ) (e : fillOf s 0 t ≡ Strings k) (i : ℕ) (c : List ℕ) where
-      e′ : fillOf s′ 0 t ≡ Strings k
+    module _ (k : ℕ) (e : fillOf s lent t ≡ Strings k) (i : ℕ) (c : List ℕ) where
+      e′ : fillOf s′ lent t ≡ Strings k
       e′ = fill-same ∙ e
 
-      right-one : (x : Globals) (a : List ℕ) → checkedOf a 0 ≡ Right x → checkedOf a 0 ≡ Right g → x ≡ g
+      right-one : (x : Globals) (a : List ℕ) → checkedOf a lent ≡ Right x → checkedOf a lent ≡ Right g → x ≡ g
       right-one x a y z = cc
 
-      globals-one : given s t 0 k e i c .globals ≡ g
-      globals-one = right-one (given s t 0 k e i c .globals) s (given s t 0 k e i c .passes) (r .passes)
+      globals-one : given s t lent k e i c .globals ≡ g
+      globals-one = right-one (given s t lent k e i c .globals) s (given s t lent k e i c .passes) (r .passes)
 
-      globals-one′ : given s′ t 0 k e′ i c .globals ≡ g
-      globals-one′ = right-one (given s′ t 0 k e′ i c .globals) s′ (given s′ t 0 k e′ i c .passes) passes′
+      globals-one′ : given s′ t lent k e′ i c .globals ≡ g
+      globals-one′ = right-one (given s′ t lent k e′ i c .globals) s′ (given s′ t lent k e′ i c .passes) passes′
 
-      through-same : throughOf s′ (tableAfter s 0 t) i c ≡ throughOf s (tableAfter s 0 t) i c
+      through-same : throughOf s′ (tableAfter s lent t) i c ≡ throughOf s (tableAfter s lent t) i c
       through-same =
           ap (λ (x : List ℕ). throughOf s′ x i c) (sym after-same)
-          ∙ through-filled s′ t 0 k e′ i c
+          ∙ through-filled s′ t lent k e′ i c
           ∙ ap (answerIn s′ i c) globals-one′
           ∙ answers
           ∙ ap (answerIn s i c) (sym globals-one)
-          ∙ sym (through-filled s t 0 k e i c)
+          ∙ sym (through-filled s t lent k e i c)
         where
           answers : answerIn s′ i c g ≡ answerIn s i c g
           answers = ap (λ (x : List (List ℕ)). nth x i (fetchedOf (length c)) (fetched.Refused 11 0)) strings-same
 
-      buffer-same : bufferThrough s′ (tableAfter s 0 t) i c ≡ bufferThrough s (tableAfter s 0 t) i c
+      buffer-same : bufferThrough s′ (tableAfter s lent t) i c ≡ bufferThrough s (tableAfter s lent t) i c
       buffer-same =
           ap (λ (x : List ℕ). bufferThrough s′ x i c) (sym after-same)
-          ∙ buffer-filled s′ t 0 k e′ i c
+          ∙ buffer-filled s′ t lent k e′ i c
           ∙ ap (bufferIn s′ i c) globals-one′
           ∙ buffers
           ∙ ap (bufferIn s i c) (sym globals-one)
-          ∙ sym (buffer-filled s t 0 k e i c)
+          ∙ sym (buffer-filled s t lent k e i c)
         where
           buffers : bufferIn s′ i c g ≡ bufferIn s i c g
           buffers = ap (λ (x : List (List ℕ)). nth x i (bufferOf c) c) strings-same
 
 -- the stream after a granted correction
 pub same-table : SameTable
-same-table s n row column v t h =
+same-table s lent sheets n row column v t h =
     let m = made h in
-    one m (λ a. subst⁻¹ (λ (x : List ℕ). (fillOf x 0 a ≡ fillOf s 0 a) × (tableAfter x 0 a ≡ tableAfter s 0 a)) (m .after)
-    (fill-same s n row column v (m .kind) (m .place) (m .number) (h .held) (m .is) a, after-same s n row column v (m .kind) (m .place) (m .number) (h .held) (m .is) a))
+    one m (λ a. subst⁻¹ (λ (x : List ℕ). (fillOf x lent a ≡ fillOf s lent a) × (tableAfter x lent a ≡ tableAfter s lent a)) (m .after)
+    (fill-same s lent sheets n row column v (m .kind) (m .place) (m .number) (h .held) (m .is) a, after-same s lent sheets n row column v (m .kind) (m .place) (m .number) (h .held) (m .is) a))
 
 pub outlives : Outlives
-outlives s n row column v t h =
+outlives s lent sheets n row column v t h =
     let m = made h in
-    one m (λ a k e i b. subst⁻¹ (λ (x : List ℕ). (throughOf x (tableAfter s 0 a) i b ≡ throughOf s (tableAfter s 0 a) i b) × (bufferThrough x (tableAfter s 0 a) i b ≡ bufferThrough s (tableAfter s 0 a) i b)) (m .after)
-    (through-same s n row column v (m .kind) (m .place) (m .number) (h .held) (m .is) a k e i b, buffer-same s n row column v (m .kind) (m .place) (m .number) (h .held) (m .is) a k e i b))
+    one m (λ a k e i b. subst⁻¹ (λ (x : List ℕ). (throughOf x (tableAfter s lent a) i b ≡ throughOf s (tableAfter s lent a) i b) × (bufferThrough x (tableAfter s lent a) i b ≡ bufferThrough s (tableAfter s lent a) i b)) (m .after)
+    (through-same s lent sheets n row column v (m .kind) (m .place) (m .number) (h .held) (m .is) a k e i b, buffer-same s lent sheets n row column v (m .kind) (m .place) (m .number) (h .held) (m .is) a k e i b))

@@ -9,11 +9,11 @@ use Rattle.claims.specs.Demand3.{Granted}
 
 -- filling after it gives the table that filling before it gave
 abbrev pub SameTable : Type 0
-SameTable = Granted (λ s n row column v c t. (a : List ℕ) → (fillOf t 0 a ≡ fillOf s 0 a) × (tableAfter t 0 a ≡ tableAfter s 0 a))
+SameTable = Granted (λ s lent n row column v c t. (a : List ℕ) → (fillOf t lent a ≡ fillOf s lent a) × (tableAfter t lent a ≡ tableAfter s lent a))
 
 -- a fetch through the table that was filled before it answers the same after it, for every index and every buffer
 abbrev pub Outlives : Type 0
 Outlives =
-    Granted (λ s n row column v c t.
-    (a : List ℕ) (k : ℕ) → fillOf s 0 a ≡ Strings k → (i : ℕ) (b : List ℕ)
-    → (throughOf t (tableAfter s 0 a) i b ≡ throughOf s (tableAfter s 0 a) i b) × (bufferThrough t (tableAfter s 0 a) i b ≡ bufferThrough s (tableAfter s 0 a) i b))
+    Granted (λ s lent n row column v c t.
+    (a : List ℕ) (k : ℕ) → fillOf s lent a ≡ Strings k → (i : ℕ) (b : List ℕ)
+    → (throughOf t (tableAfter s lent a) i b ≡ throughOf s (tableAfter s lent a) i b) × (bufferThrough t (tableAfter s lent a) i b ≡ bufferThrough s (tableAfter s lent a) i b))

@@ -52,8 +52,8 @@ use Rattle.correction.specs.declared.Target.{Target}
 use Rattle.correction.specs.declared.Target.the-variants as target
 use Rattle.correction.specs.declared.Aim.{Aim}
 use Rattle.correction.specs.declared.Aim.the-variants as aim
-use Rattle.correction.specs.Correction.{Correction, refuses, writes, cellsAt, onPlan, onCells, correctionOf, answerOf, streamAfter}
-use Rattle.correction.specs.Parts.{joined, targetOf, withOne, inRow, fieldOfCell, metOf, onTarget, aimOf, TargetWithin, AimWithin}
+use Rattle.correction.specs.Correction.{Correction, refuses, writes, cellsAt, onPlan, onCells, noSheet, correctionIn, correctionOf, answerOf, streamAfter}
+use Rattle.correction.specs.Parts.{joined, targetOf, withOne, inRow, fieldOfCell, metOf, onTarget, aimIn, TargetWithin, AimWithin}
 
 -- ---- the cells of an address among the cells of a row
 module _ (row column : ℕ) where
@@ -299,39 +299,40 @@ find-start s from row column = (refl, tt)
 pub ruleset find-laws = (find-start, row-less, row-few, row-low, row-again, next-less, next-again, found-all)
 
 -- ---- the aim
+pub sheet-lent : (sheets n : ℕ) {m : ℕ} → m ≡ n → m < sheets → 17 ≡ noSheet sheets n
+unfolding noSheet
+sheet-lent sheets n i l = pick-lt _ _ _ _ _ (rw i at l) refl
+
+pub sheet-missing : (sheets n : ℕ) {m : ℕ} → m ≡ n → sheets ≤ m → 11 ≡ noSheet sheets n
+unfolding noSheet
+sheet-missing sheets n i l = pick-nlt _ _ _ _ _ (rw i at l) refl
+
 pub start-place : (len p k : ℕ) → placeAt (startBy len p k .at) 0 ≡ startBy len p k
 unfolding startBy placeAt
 start-place len p k = pick-any (λ (x : Place). placeAt (x .at) 0 ≡ x) (eqb k 1) refl refl
 
-module _ (s : List ℕ) (n row column : ℕ) {r : Checked} (is : r ≡ checkedOf s 0) where
-  pub aim-wrong : (m o : ℕ) → r ≡ Wrong m o → aim.Refused m o ≡ aimOf s n row column
-  unfolding aimOf
-  aim-wrong m o h = ap (onChecked aim.Refused (λ (g : Globals). nth (sheetsOf s) n (λ (x : Sheet). onTarget (g .unique) (targetOf (cellsAt row column (listedOf s x)))) (aim.Refused 11 0))) (sym h ∙ is)
+module _ (s : List ℕ) (u sheets n row column : ℕ) where
+  abbrev toAim : Sought → Aim
+  toAim (sought.Sheet o p k) = onTarget u (targetOf (cellsAt row column (listedFrom s (startBy (length s) p k))))
+  toAim sought.Absent = aim.Refused (noSheet sheets n) 0
 
-  module _ (g : Globals) (h : r ≡ Right g) where
-    abbrev toAim : Sought → Aim
-    toAim (sought.Sheet o p k) = onTarget (g .unique) (targetOf (cellsAt row column (listedFrom s (startBy (length s) p k))))
-    toAim sought.Absent = aim.Refused 11 0
+  to-aim : (l : List Sheet) (i : ℕ) → nth l i (λ (x : Sheet). toAim (foundSheet x)) (aim.Refused (noSheet sheets n) 0) ≡ toAim (nth l i foundSheet sought.Absent)
+  unfolding nth
+  to-aim [] i = refl
+  to-aim (x ∷ l) zero = refl
+  to-aim (x ∷ l) (suc i) = to-aim l i
 
-    to-aim : (l : List Sheet) (n : ℕ) → nth l n (λ (x : Sheet). toAim (foundSheet x)) (aim.Refused 11 0) ≡ toAim (nth l n foundSheet sought.Absent)
-    unfolding nth
-    to-aim [] n = refl
-    to-aim (x ∷ l) zero = refl
-    to-aim (x ∷ l) (suc n) = to-aim l n
+  aimed : (q x : Sought) → q ≡ nth (sheetsOf s) n foundSheet sought.Absent → q ≡ x → toAim x ≡ aimIn s u sheets n row column
+  unfolding aimIn
+  aimed q x i j = ap toAim (sym j ∙ i) ∙ sym (to-aim (sheetsOf s) n)
 
-    aimed : (q x : Sought) → q ≡ nth (sheetsOf s) n foundSheet sought.Absent → q ≡ x → toAim x ≡ aimOf s n row column
-    unfolding aimOf
-    aimed q x i j =
-        ap toAim (sym j ∙ i) ∙ sym (to-aim (sheetsOf s) n)
-        ∙ ap (onChecked aim.Refused (λ (g : Globals). nth (sheetsOf s) n (λ (x : Sheet). onTarget (g .unique) (targetOf (cellsAt row column (listedOf s x)))) (aim.Refused 11 0))) (sym h ∙ is)
+  module _ (q : Sought) (i : q ≡ nth (sheetsOf s) n foundSheet sought.Absent) where
+    pub aim-absent : {m : ℕ} → q ≡ sought.Absent → m ≡ noSheet sheets n → aim.Refused m 0 ≡ aimIn s u sheets n row column
+    aim-absent j k = ap (λ (x : ℕ). aim.Refused x 0) k ∙ aimed q sought.Absent i j
 
-    module _ (q : Sought) (i : q ≡ nth (sheetsOf s) n foundSheet sought.Absent) where
-      pub aim-absent : q ≡ sought.Absent → aim.Refused 11 0 ≡ aimOf s n row column
-      aim-absent j = aimed q sought.Absent i j
-
-      pub aim-there : (o p k : ℕ) (v : Place) (t : Target) (a : Aim) → q ≡ sought.Sheet o p k → v ≡ startBy (length s) p k → t ≡ targetOf (cellsAt row column (listedFrom s (placeAt (v .at) 0))) → a ≡ onTarget (g .unique) t → a ≡ aimOf s n row column
-      aim-there o p k v t a j e f b =
-          b ∙ ap (onTarget (g .unique)) (f ∙ ap (λ (x : Place). targetOf (cellsAt row column (listedFrom s x))) (ap (λ (x : Place). placeAt (x .at) 0) e ∙ start-place (length s) p k)) ∙ aimed q (sought.Sheet o p k) i j
+    pub aim-there : (o p k : ℕ) (v : Place) (t : Target) (a : Aim) → q ≡ sought.Sheet o p k → v ≡ startBy (length s) p k → t ≡ targetOf (cellsAt row column (listedFrom s (placeAt (v .at) 0))) → a ≡ onTarget u t → a ≡ aimIn s u sheets n row column
+    aim-there o p k v t a j e f b =
+        b ∙ ap (onTarget u) (f ∙ ap (λ (x : Place). targetOf (cellsAt row column (listedFrom s x))) (ap (λ (x : Place). placeAt (x .at) 0) e ∙ start-place (length s) p k)) ∙ aimed q (sought.Sheet o p k) i j
 
 pub aim-within : (len u : ℕ) (t : Target) (a : Aim) → TargetWithin len t → a ≡ onTarget u t → AimWithin len a
 aim-within len u target.None a w e = subst (AimWithin len) (sym e) tt
@@ -341,7 +342,7 @@ aim-within len u target.Many a w e = subst (AimWithin len) (sym e) tt
 pub by-target : (u : ℕ) (t x : Target) (y : Aim) → t ≡ x → y ≡ onTarget u x → y ≡ onTarget u t
 by-target u t x y e h = h ∙ ap (onTarget u) (sym e)
 
-pub ruleset aim-laws = (aim-wrong, aim-absent, aim-there, aim-within)
+pub ruleset aim-laws = (aim-absent, aim-there, aim-within)
 
 -- ---- from the aim to the correction
 abbrev planned : Field → ℕ → Plan → Correction
@@ -361,33 +362,28 @@ cells-aim v u [] = refl
 cells-aim v u (c ∷ []) = plan-is c (planOf (c .kind) v u)
 cells-aim v u (c ∷ d ∷ l) = refl
 
-module _ (s : List ℕ) (n row column : ℕ) (v : NewValue) where
-  sheets-aim : (u : ℕ) (l : List Sheet) (n : ℕ) → nth l n (λ (x : Sheet). onCells v u (cellsAt row column (listedOf s x))) (refuses 11 0) ≡ onAim v (nth l n (λ (x : Sheet). onTarget u (targetOf (cellsAt row column (listedOf s x)))) (aim.Refused 11 0))
+module _ (s : List ℕ) (u sheets n row column : ℕ) (v : NewValue) where
+  sheets-aim : (l : List Sheet) (i : ℕ) → nth l i (λ (x : Sheet). onCells v u (cellsAt row column (listedOf s x))) (refuses (noSheet sheets n) 0) ≡ onAim v (nth l i (λ (x : Sheet). onTarget u (targetOf (cellsAt row column (listedOf s x)))) (aim.Refused (noSheet sheets n) 0))
   unfolding nth
-  sheets-aim u [] n = refl
-  sheets-aim u (x ∷ l) zero = cells-aim v u (cellsAt row column (listedOf s x))
-  sheets-aim u (x ∷ l) (suc n) = sheets-aim u l n
+  sheets-aim [] i = refl
+  sheets-aim (x ∷ l) zero = cells-aim v u (cellsAt row column (listedOf s x))
+  sheets-aim (x ∷ l) (suc i) = sheets-aim l i
 
-  correction-aim : correctionOf s n row column v ≡ onAim v (aimOf s n row column)
-  unfolding correctionOf aimOf
-  correction-aim = go (checkedOf s 0)
-    where
-      go : (x : Checked) → onChecked refuses (λ (g : Globals). nth (sheetsOf s) n (λ (x : Sheet). onCells v (g .unique) (cellsAt row column (listedOf s x))) (refuses 11 0)) x
-          ≡ onAim v (onChecked aim.Refused (λ (g : Globals). nth (sheetsOf s) n (λ (x : Sheet). onTarget (g .unique) (targetOf (cellsAt row column (listedOf s x)))) (aim.Refused 11 0)) x)
-      go (Right g) = sheets-aim (g .unique) (sheetsOf s) n
-      go (Wrong m o) = refl
+  correction-aim : correctionIn s u sheets n row column v ≡ onAim v (aimIn s u sheets n row column)
+  unfolding aimIn
+  correction-aim = sheets-aim (sheetsOf s) n
 
-  module _ (a : Aim) (is : a ≡ aimOf s n row column) where
-    by-aim : (x : Aim) → a ≡ x → onAim v x ≡ correctionOf s n row column v
+  module _ (a : Aim) (is : a ≡ aimIn s u sheets n row column) where
+    by-aim : (x : Aim) → a ≡ x → onAim v x ≡ correctionIn s u sheets n row column v
     by-aim x h = ap (onAim v) (sym h ∙ is) ∙ sym correction-aim
 
-    pub kept-answer : (m o : ℕ) → a ≡ aim.Refused m o → answer.Refused m o ≡ answerOf (correctionOf s n row column v)
+    pub kept-answer : (m o : ℕ) → a ≡ aim.Refused m o → answer.Refused m o ≡ answerOf (correctionIn s u sheets n row column v)
     kept-answer m o h = ap answerOf (by-aim _ h)
 
-    pub kept-stream : (m o : ℕ) → a ≡ aim.Refused m o → s ≡ streamAfter s (correctionOf s n row column v)
+    pub kept-stream : (m o : ℕ) → a ≡ aim.Refused m o → s ≡ streamAfter s (correctionIn s u sheets n row column v)
     kept-stream m o h = ap (streamAfter s) (by-aim _ h)
 
-    module _ (k : Field) (f u : ℕ) (h : a ≡ aim.At k f u) where
+    module _ (k : Field) (f w : ℕ) (h : a ≡ aim.At k f w) where
       plan-answer : (p : Plan) → change.answerOf p ≡ answerOf (planned k f p)
       plan-answer (plan.Put m) = refl
       plan-answer (plan.Refused m o) = refl
@@ -396,14 +392,37 @@ module _ (s : List ℕ) (n row column : ℕ) (v : NewValue) where
       plan-stream (plan.Put m) = refl
       plan-stream (plan.Refused m o) = refl
 
-      pub written-answer : (r : Answer) → r ≡ change.answerOf (planOf k v u) → r ≡ answerOf (correctionOf s n row column v)
-      written-answer r e = e ∙ plan-answer (planOf k v u) ∙ ap answerOf (by-aim _ h)
+      pub written-answer : (r : Answer) → r ≡ change.answerOf (planOf k v w) → r ≡ answerOf (correctionIn s u sheets n row column v)
+      written-answer r e = e ∙ plan-answer (planOf k v w) ∙ ap answerOf (by-aim _ h)
 
-      pub written-stream : (x : List ℕ) → x ≡ changed s k f (planOf k v u) → x ≡ streamAfter s (correctionOf s n row column v)
-      written-stream x e = e ∙ plan-stream (planOf k v u) ∙ ap (streamAfter s) (by-aim _ h)
+      pub written-stream : (x : List ℕ) → x ≡ changed s k f (planOf k v w) → x ≡ streamAfter s (correctionIn s u sheets n row column v)
+      written-stream x e = e ∙ plan-stream (planOf k v w) ∙ ap (streamAfter s) (by-aim _ h)
 
 pub field-in : (len : ℕ) (a : Aim) (k : Field) (f u : ℕ) → AimWithin len a → a ≡ aim.At k f u → f + widthOf k ≤ len
 field-in len a k f u w e = let x : AimWithin len (aim.At k f u) = subst (AimWithin len) e w in x
+
+-- ---- after the check
+module _ (s : List ℕ) (lent sheets n row column : ℕ) (v : NewValue) {r : Checked} (is : r ≡ checkedOf s lent) where
+  abbrev by : Checked → Correction
+  by x = onChecked refuses (λ (g : Globals). correctionIn s (g .unique) sheets n row column v) x
+
+  pub wrong-answer : (m o : ℕ) → r ≡ Wrong m o → answer.Refused m o ≡ answerOf (correctionOf s lent sheets n row column v)
+  unfolding correctionOf
+  wrong-answer m o h = ap (λ (x : Checked). answerOf (by x)) (sym h ∙ is)
+
+  pub wrong-stream : (m o : ℕ) → r ≡ Wrong m o → s ≡ streamAfter s (correctionOf s lent sheets n row column v)
+  unfolding correctionOf
+  wrong-stream m o h = ap (λ (x : Checked). streamAfter s (by x)) (sym h ∙ is)
+
+  pub right-answer : (g : Globals) (y : Answer) → r ≡ Right g → y ≡ answerOf (correctionIn s (g .unique) sheets n row column v) → y ≡ answerOf (correctionOf s lent sheets n row column v)
+  unfolding correctionOf
+  right-answer g y h e = e ∙ ap (λ (x : Checked). answerOf (by x)) (sym h ∙ is)
+
+  pub right-stream : (g : Globals) (t : List ℕ) → r ≡ Right g → t ≡ streamAfter s (correctionIn s (g .unique) sheets n row column v) → t ≡ streamAfter s (correctionOf s lent sheets n row column v)
+  unfolding correctionOf
+  right-stream g t h e = e ∙ ap (λ (x : Checked). streamAfter s (by x)) (sym h ∙ is)
+
+pub ruleset checked-laws = (wrong-answer, wrong-stream, right-answer, right-stream)
 
 pub ruleset correct-laws = (kept-answer, kept-stream, written-answer, written-stream, field-in)
 

@@ -1,8 +1,10 @@
--- The correction of one cell: any refusal that the check would give, then 11, 16, 17, 18, each at 0; else the value field is written and nothing else.
+-- The correction of one cell: any refusal that the check would give, then 17 for a sheet of the template, 11, 16, 17, 18, each at 0; else the value field is
+-- written and nothing else. Of a template two numbers matter: `lent`, which is the unique count of strings where the stream has no SST, and `sheets`, how
+-- many sheets it has. Both are 0 for a stream by itself.
 use Prim.Native.Nat.{ℕ}
 use mathlib.Core.List.{List, [], _∷_}
 use mathlib.Core.Bool.{_&&_}
-use lib.Dec.{eqb}
+use lib.Dec.{ltb, eqb}
 use lib.Seq.{sets}
 use Rattle.walk.specs.Choice.{pick}
 use Rattle.walk.specs.Items.{nth}
@@ -42,11 +44,16 @@ onCells v u [] = refuses 11 0
 onCells v u (c ∷ []) = onPlan c (planOf (c .kind) v u)
 onCells v u (c ∷ d ∷ l) = refuses 16 0
 
-unfoldable pub correctionOf : List ℕ → ℕ → ℕ → ℕ → NewValue → Correction
-correctionOf s n row column v =
-    onChecked refuses
-    (λ (g : Globals). nth (sheetsOf s) n (λ (x : Sheet). onCells v (g .unique) (cellsAt row column (listedOf s x))) (refuses 11 0))
-    (checkedOf s 0)
+-- no such sheet: 17 where the template has it, else 11
+unfoldable pub noSheet : ℕ → ℕ → ℕ
+noSheet sheets n = pick (ltb n sheets) 17 11
+
+-- in sheet n of a stream that passes, with u strings
+abbrev pub correctionIn : List ℕ → ℕ → ℕ → ℕ → ℕ → ℕ → NewValue → Correction
+correctionIn s u sheets n row column v = nth (sheetsOf s) n (λ (x : Sheet). onCells v u (cellsAt row column (listedOf s x))) (refuses (noSheet sheets n) 0)
+
+unfoldable pub correctionOf : List ℕ → ℕ → ℕ → ℕ → ℕ → ℕ → NewValue → Correction
+correctionOf s lent sheets n row column v = onChecked refuses (λ (g : Globals). correctionIn s (g .unique) sheets n row column v) (checkedOf s lent)
 
 -- the answer, and the stream after it
 abbrev pub answerOf : Correction → Answer

@@ -10,15 +10,13 @@ use Rattle.value.specs.declared.Field.{Field}
 use Rattle.cell.specs.declared.Cell.{Cell}
 use Rattle.cell.specs.Cells.{shapeOf, fieldOf, partOf, startOf}
 use Rattle.sheetlist.specs.Agreement.{Sheet}
-use Rattle.globals.specs.declared.Globals.{Globals}
 use Rattle.globals.specs.Sheets.{sheetsOf}
-use Rattle.workbook.specs.Check.{checkedOf, onChecked}
 use Rattle.reading.specs.Reading.{listedOf}
 use Rattle.correction.specs.declared.Target.{Target}
 use Rattle.correction.specs.declared.Target.the-variants as target
 use Rattle.correction.specs.declared.Aim.{Aim}
 use Rattle.correction.specs.declared.Aim.the-variants as aim
-use Rattle.correction.specs.Correction.{cellsAt}
+use Rattle.correction.specs.Correction.{cellsAt, noSheet}
 
 -- what an address's cells come to, after some that were found before
 abbrev pub joined : Target → List Cell → Target
@@ -59,11 +57,8 @@ onTarget u (target.One k f) = aim.At k f u
 onTarget u target.Many = aim.Refused 16 0
 
 -- the one cell of an address, before a value is looked at
-unfoldable pub aimOf : List ℕ → ℕ → ℕ → ℕ → Aim
-aimOf s n row column =
-    onChecked aim.Refused
-    (λ (g : Globals). nth (sheetsOf s) n (λ (x : Sheet). onTarget (g .unique) (targetOf (cellsAt row column (listedOf s x)))) (aim.Refused 11 0))
-    (checkedOf s 0)
+unfoldable pub aimIn : List ℕ → ℕ → ℕ → ℕ → ℕ → ℕ → Aim
+aimIn s u sheets n row column = nth (sheetsOf s) n (λ (x : Sheet). onTarget u (targetOf (cellsAt row column (listedOf s x)))) (aim.Refused (noSheet sheets n) 0)
 
 -- the value field lies within the stream
 abbrev pub TargetWithin : ℕ → Target → Type 0

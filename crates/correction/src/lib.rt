@@ -5,8 +5,8 @@ ghost use lib.ListN.{length};
 ghost use Rattle.cell.specs.Cells.{shapeOf, fieldOf, partOf, startOf};
 ghost use Rattle.change.specs.Change.{Held};
 ghost use Rattle.reading.specs.Cells.{placeAt, listedFrom};
-ghost use Rattle.correction.specs.Correction.{cellsAt, correctionOf, answerOf, streamAfter};
-ghost use Rattle.correction.specs.Parts.{targetOf, withOne, inRow, fieldOfCell, metOf, onTarget, aimOf, TargetWithin, AimWithin};
+ghost use Rattle.correction.specs.Correction.{cellsAt, noSheet, correctionIn, correctionOf, answerOf, streamAfter};
+ghost use Rattle.correction.specs.Parts.{targetOf, withOne, inRow, fieldOfCell, metOf, onTarget, aimIn, TargetWithin, AimWithin};
 use change::Answer;
 use change::NewValue;
 use listing::Sought;
@@ -193,44 +193,73 @@ fn on_target(found: Target, unique: u32) -> Aim
     }
 }
 
-// The one cell of an address in a sheet.
-fn aim_at(s: &[u8], sheet: u32, row: u32, column: u32) -> Aim
-    ensures { λ r. ⌜ r ≡ aimOf (now (s .entry)) sheet row column ⌝ }
+// The refusal for a sheet that the stream hasn't, under a template of so many sheets.
+fn no_sheet(sheets: usize, n: u32) -> u8
+    ensures { λ r. ⌜ r ≡ noSheet sheets n ⌝ }
+{
+    if le::u32_as_usize(n) < sheets {
+        return 17;
+    }
+    11
+}
+
+// The one cell of an address in a sheet of a stream that passes, with `unique` strings, under a template of so many sheets.
+fn aim_in(s: &[u8], unique: u32, sheets: usize, sheet: u32, row: u32, column: u32) -> Aim
+    requires { ⌜ length (now s) ≤ 16777216 ⌝ }
+    ensures { λ r. ⌜ r ≡ aimIn (now (s .entry)) unique sheets sheet row column ⌝ }
     ensures { λ r. ⌜ AimWithin (length (now (s .entry))) r ⌝ }
 {
-    match workbook::check_with(s, 0) {
-        Checked::Wrong { number, offset } => Aim::Refused { number, offset },
-        Checked::Right(g) => match listing::find_sheet(s, sheet) {
-            Sought::Absent => Aim::Refused {
-                number: 11,
-                offset: 0,
-            },
-            Sought::Sheet {
-                header: _,
-                position,
-                kind,
-            } => {
-                let start = listing::start_of(s, position, kind);
-                let found = find(s, start.at, row, column);
-                on_target(found, g.unique)
-            }
+    match listing::find_sheet(s, sheet) {
+        Sought::Absent => Aim::Refused {
+            number: no_sheet(sheets, sheet),
+            offset: 0,
         },
+        Sought::Sheet {
+            header: _,
+            position,
+            kind,
+        } => {
+            let start = listing::start_of(s, position, kind);
+            let found = find(s, start.at, row, column);
+            on_target(found, unique)
+        }
     }
 }
 
-// Correct a cell: the value goes into its value field, and no other byte changes; on a refusal none does. That the value is one that its type holds is what
-// the claims on a correction stand on.
-pub fn correct(s: &mut [u8], sheet: u32, row: u32, column: u32, value: NewValue) -> Answer
-    ensures { λ r. ⌜ r ≡ answerOf (correctionOf (now (s .entry)) sheet row column value) ⌝ }
-    ensures { λ r. ⌜ now (s .exit) ≡ streamAfter (now (s .entry)) (correctionOf (now (s .entry)) sheet row column value) ⌝ }
+// Correct a cell of a stream that passes, with `unique` strings, under a template of so many sheets: the value goes into its value field, and no other byte
+// changes; on a refusal none does.
+pub fn correct_in(
+    s: &mut [u8],
+    unique: u32,
+    sheets: usize,
+    sheet: u32,
+    row: u32,
+    column: u32,
+    value: NewValue,
+) -> Answer
+    requires { ⌜ length (now s) ≤ 16777216 ⌝ }
+    ensures { λ r. ⌜ r ≡ answerOf (correctionIn (now (s .entry)) unique sheets sheet row column value) ⌝ }
+    ensures { λ r. ⌜ now (s .exit) ≡ streamAfter (now (s .entry)) (correctionIn (now (s .entry)) unique sheets sheet row column value) ⌝ }
     ensures { λ r. ⌜ Held value ⌝ }
 {
-    match aim_at(&s[..], sheet, row, column) {
+    match aim_in(&s[..], unique, sheets, sheet, row, column) {
         Aim::Refused { number, offset } => Answer::Refused { number, offset },
         Aim::At {
             kind,
             field,
             unique,
         } => change::write_value(s, kind, field, value, unique),
+    }
+}
+
+// Correct a cell. That the value is one that its type holds is what the claims on a correction stand on.
+pub fn correct(s: &mut [u8], sheet: u32, row: u32, column: u32, value: NewValue) -> Answer
+    ensures { λ r. ⌜ r ≡ answerOf (correctionOf (now (s .entry)) 0 0 sheet row column value) ⌝ }
+    ensures { λ r. ⌜ now (s .exit) ≡ streamAfter (now (s .entry)) (correctionOf (now (s .entry)) 0 0 sheet row column value) ⌝ }
+    ensures { λ r. ⌜ Held value ⌝ }
+{
+    match workbook::check_with(&s[..], 0) {
+        Checked::Wrong { number, offset } => Answer::Refused { number, offset },
+        Checked::Right(g) => correct_in(s, g.unique, 0, sheet, row, column, value),
     }
 }

@@ -112,25 +112,25 @@ module _ (s : List ℕ) where
   unfolding isGlobalsBof
   is-bof t z h = pick-by (λ (a : Bool). a ≡ true → t ≡ 0x0809) (eqb t 0x0809) (λ i _. eqb-true t 0x0809 i) (λ _ i. never (cc)) h
 
-  starts : (g : Globals) (x : Header) → headerAt s 0 ≡ x → onFirst s 0 x ≡ At g → u16At s 0 ≡ 0x0809
-  starts g (header.Record t z e) i h =
+  starts : (u : ℕ) (g : Globals) (x : Header) → headerAt s 0 ≡ x → onFirst s u x ≡ At g → u16At s 0 ≡ 0x0809
+  starts u g (header.Record t z e) i h =
       let w = whole s 0 t z e i in
       pick-by (λ (a : Ended). a ≡ At g → u16At s 0 ≡ 0x0809) (isGlobalsBof s t z) (λ j _. sym (w .kind) ∙ is-bof t z j) (λ _ j. never (cc)) h
-  starts g header.Cut i h = never (cc)
-  starts g header.End i h = never (cc)
+  starts u g header.Cut i h = never (cc)
+  starts u g header.End i h = never (cc)
 
-  no-continue : (g : Globals) → globalsOf s 0 ≡ At g → continues s 0 ≡ false
+  no-continue : (u : ℕ) (g : Globals) → globalsOf s u ≡ At g → continues s 0 ≡ false
   unfolding globalsOf continues
-  no-continue g h = let b = starts g (headerAt s 0) refl h in pick-any (λ (a : Bool). a ≡ false) _ refl (ne-eqb (u16At s 0) 0x003c (λ i. omega arith))
+  no-continue u g h = let b = starts u g (headerAt s 0) refl h in pick-any (λ (a : Bool). a ≡ false) _ refl (ne-eqb (u16At s 0) 0x003c (λ i. omega arith))
 
-  told-texts : (g : Globals) → globalsOf s 0 ≡ At g → TableTold s 0 g → Given s (firstOf s (g .table)) (stringsAt s (g .table))
-  told-texts g h (inl t) =
+  told-texts : (u : ℕ) (g : Globals) → globalsOf s u ≡ At g → TableTold s u g → Given s (firstOf s (g .table)) (stringsAt s (g .table))
+  told-texts u g h (inl t) =
       subst (λ (c : Cursor). Given s c (stringsAt s (g .table))) (first-none s (g .table) nowhere (t .0) refl)
-      (subst (Given s nowhere) (sym (strings-none s (g .table) (t .0))) (at-end (no-string s nowhere refl (no-continue g h))))
-  told-texts g h (inr t) = subst (Given s (firstOf s (g .table))) (sym (strings-some s (g .table) (t .later))) (table-texts (g .table) (t .later) (t .within) (t .table))
+      (subst (Given s nowhere) (sym (strings-none s (g .table) (t .0))) (at-end (no-string s nowhere refl (no-continue u g h))))
+  told-texts u g h (inr t) = subst (Given s (firstOf s (g .table))) (sym (strings-some s (g .table) (t .later))) (table-texts (g .table) (t .later) (t .within) (t .table))
 
 pub strings-are-listed : StringsListed
 unfolding readingOf
-strings-are-listed s g h =
-    let e = checked-globals s 0 g (sym h) in
-    subst (Given s (firstOf s (g .table))) (sym (ap (onGlobals s) e)) (told-texts s g e (table-told s 0 g e))
+strings-are-listed s u g h =
+    let e = checked-globals s u g (sym h) in
+    subst (Given s (firstOf s (g .table))) (sym (ap (onGlobals s) e)) (told-texts s u g e (table-told s u g e))

@@ -21,6 +21,7 @@ pub record StringGiven (s : List ℕ) (c : Cursor) (us : List ℕ) (d : Cursor) 
 abbrev pub NoString : List ℕ → Cursor → Type 0
 NoString s c = (b : List ℕ) → (nextStringOf s c b ≡ End) × (nextBuffer s c b ≡ b)
 
--- after a check that passes, from `first_string` on: exactly the strings of the reading, in order, and then the end
+-- after a check that passes, from `first_string` on: exactly the strings of the reading, in order, and then the end; u is the unique count where the
+-- stream has no SST
 abbrev pub StringsListed : Type 0
-StringsListed = (s : List ℕ) (g : Globals) → checkedOf s 0 ≡ Right g → Lists (StringGiven s) (NoString s) (firstOf s (g .table)) (readingOf s .strings)
+StringsListed = (s : List ℕ) (u : ℕ) (g : Globals) → checkedOf s u ≡ Right g → Lists (StringGiven s) (NoString s) (firstOf s (g .table)) (readingOf s u .strings)

@@ -21,10 +21,10 @@ frames-written p v (c ∷ l) =
     ap₂ (λ (x : Frame) (y : List Frame). x ∷ y) (pick-any (λ (d : Cell). frameOf d ≡ frameOf c) (eqb (c .field) p) refl refl) (frames-written p v l)
 
 pub all-left : AllLeft
-all-left s n row column v f p b held h =
-    let r = granted s n row column v f p b h in
+all-left s lent sheets n row column v f p b held h =
+    let r = granted s lent sheets n row column v f p b h in
     record {
-      checked = upheld s n row column v f p b held h;
-      sheets = sym (sheets-stay s n row column v f p b held r);
+      checked = upheld s lent sheets n row column v f p b held h;
+      sheets = sym (sheets-stay s lent n row column v f p b held r);
       cells = λ m x i. ap (map frameOf) (listed-written r held m x i) ∙ frames-written _ (newOf v) (listedOf s x);
     }

@@ -49,12 +49,12 @@ abbrev pub frameOf : Cell → Frame
 frameOf c = record { row = c .row; column = c .column; format = c .format; kind = c .kind; place = c .field }
 
 -- the check's answer, with the globals and the unique count of strings, the sheets, and all of every cell but its value
-pub record Left (s t : List ℕ) : Type 0 where
-  pub checked : checkedOf t 0 ≡ checkedOf s 0
+pub record Left (s t : List ℕ) (lent : ℕ) : Type 0 where
+  pub checked : checkedOf t lent ≡ checkedOf s lent
   pub sheets : sheetsOf t ≡ sheetsOf s
   pub cells : (n : ℕ) (x : Sheet) → Nth (sheetsOf s) n x → map frameOf (listedOf t x) ≡ map frameOf (listedOf s x)
 
 abbrev pub AllLeft : Type 0
 AllLeft =
-    (s : List ℕ) (n row column : ℕ) (v : NewValue) (f : Field) (p b : ℕ) → Held v → correctionOf s n row column v ≡ writes f p b
-    → Left s (streamAfter s (writes f p b))
+    (s : List ℕ) (lent sheets n row column : ℕ) (v : NewValue) (f : Field) (p b : ℕ) → Held v → correctionOf s lent sheets n row column v ≡ writes f p b
+    → Left s (streamAfter s (writes f p b)) lent

@@ -166,4 +166,4 @@ module _ (s : List ℕ) where
 
 pub sheets-are-listed : SheetsListed
 unfolding readingOf
-sheets-are-listed s = sheets-by s (sheetsOf s) firstSheet (nextSheetOf s firstSheet) refl (sheets-next s firstSheet) refl
+sheets-are-listed s u = sheets-by s (sheetsOf s) firstSheet (nextSheetOf s firstSheet) refl (sheets-next s firstSheet) refl

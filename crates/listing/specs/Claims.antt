@@ -33,7 +33,7 @@ CellsGiven s = Lists (CellGiven s) (λ v. nextOf s v ≡ listed.End)
 
 -- from where `cells` starts, exactly the cells that the reading has for sheet n
 abbrev pub CellsListed : Type 0
-CellsListed = (s : List ℕ) (n : ℕ) (v : Place) → cellsOf s n ≡ start.At v → CellsGiven s v (nth (readingOf s .sheets) n (λ (x : SheetReading). x .cells) [])
+CellsListed = (s : List ℕ) (n : ℕ) (v : Place) → cellsOf s n ≡ start.At v → CellsGiven s v (nth (readingOf s 0 .sheets) n (λ (x : SheetReading). x .cells) [])
 
 -- ---- the sheets
 -- from p, `next_sheet` gives the sheet x and the place q; `name_at` gives its name, `rows` its row count, and `next_cell` its cells
@@ -45,6 +45,6 @@ pub record SheetGiven (s : List ℕ) (p : ℕ) (x : SheetReading) (q : ℕ) : Ty
   pub rows : rowsOf (listedFrom s cells) ≡ x .rows
   pub listed : CellsGiven s cells (x .cells)
 
--- from `first_sheet` on, exactly the sheets of the reading, in order, and then the end
+-- from `first_sheet` on, exactly the sheets of the reading, in order, and then the end; u is the unique count of strings where the stream has no SST
 abbrev pub SheetsListed : Type 0
-SheetsListed = (s : List ℕ) → Lists (SheetGiven s) (λ p. nextSheetOf s p ≡ nextSheet.End) firstSheet (readingOf s .sheets)
+SheetsListed = (s : List ℕ) (u : ℕ) → Lists (SheetGiven s) (λ p. nextSheetOf s p ≡ nextSheet.End) firstSheet (readingOf s u .sheets)

@@ -16,7 +16,7 @@ length-map f (x ∷ l) = ap (λ (n : ℕ). suc n) (length-map f l)
 
 pub sheets-read : SheetsRead
 unfolding readingOf
-sheets-read s = length-map (sheetReading s) (sheetsOf s)
+sheets-read s u = length-map (sheetReading s) (sheetsOf s)
 
 each-mapped : {A B : Type 0} (f : A → B) (P : B → Type 0) (l : List A) → ((x : A) → P (f x)) → Every P (map f l)
 each-mapped f P [] h = tt
@@ -29,6 +29,6 @@ below s m (c ∷ l) h = (omega arith, below s m l (omega arith))
 
 pub rows-counted : RowsCounted
 unfolding readingOf
-rows-counted s =
+rows-counted s u =
     each-mapped (sheetReading s) (λ (x : SheetReading). Every (λ (c : CellReading). c .row < x .rows) (x .cells)) (sheetsOf s)
     (λ x. below s (rowsOf (listedOf s x)) (listedOf s x) (omega arith))

@@ -13,8 +13,8 @@ Every P (x ∷ l) = P x × Every P l
 
 -- no sheet is passed over, and none is made up
 abbrev pub SheetsRead : Type 0
-SheetsRead = (s : List ℕ) → length (readingOf s .sheets) ≡ length (sheetsOf s)
+SheetsRead = (s : List ℕ) (u : ℕ) → length (readingOf s u .sheets) ≡ length (sheetsOf s)
 
 -- each listed row is below its sheet's row count
 abbrev pub RowsCounted : Type 0
-RowsCounted = (s : List ℕ) → Every (λ (x : SheetReading). Every (λ (c : CellReading). c .row < x .rows) (x .cells)) (readingOf s .sheets)
+RowsCounted = (s : List ℕ) (u : ℕ) → Every (λ (x : SheetReading). Every (λ (c : CellReading). c .row < x .rows) (x .cells)) (readingOf s u .sheets)

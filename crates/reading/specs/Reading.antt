@@ -140,5 +140,6 @@ sheetReading s x = record {
   cells = map (cellReading s) (listedOf s x);
 }
 
-unfoldable pub readingOf : List ℕ → Reading
-readingOf s = record { sheets = map (sheetReading s) (sheetsOf s); strings = onGlobals s (globalsOf s 0) }
+-- u is the unique count of strings where the stream has no SST, 0 for a stream by itself
+unfoldable pub readingOf : List ℕ → ℕ → Reading
+readingOf s u = record { sheets = map (sheetReading s) (sheetsOf s); strings = onGlobals s (globalsOf s u) }

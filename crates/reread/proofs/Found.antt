@@ -111,10 +111,10 @@ sheet-cells s g x i =
     (λ _. subst (Every (ListedTo s (x .position) (i .end))) (sym (listed-none s (length s) (omega arith))) tt)
 
 -- ---- the stream after it
-module _ {s : List ℕ} {n row column : ℕ} {v : NewValue} {f : Field} {p b : ℕ} (r : Granted s n row column v f p b) where
+module _ {s : List ℕ} {lent n row column : ℕ} {v : NewValue} {f : Field} {p b : ℕ} (r : Granted s lent n row column v f p b) where
   -- the sheet's substream, and the record of the cell in it
   pub stands : SheetStands s (r .globals) (r .sheet)
-  stands = sheets-stand s 0 (r .globals) (r .passes) n (r .sheet) (r .nth)
+  stands = sheets-stand s lent (r .globals) (r .passes) n (r .sheet) (r .nth)
 
   pub found : ListedTo s (r .sheet .position) (stands .end) (r .cell)
   found = subst (Every (ListedTo s (r .sheet .position) (stands .end))) (r .only) (every-at (ListedTo s (r .sheet .position) (stands .end)) row column (listedOf s (r .sheet)) (sheet-cells s (r .globals) (r .sheet) stands)) .0
@@ -124,7 +124,7 @@ module _ {s : List ℕ} {n row column : ℕ} {v : NewValue} {f : Field} {p b : �
   reach-found = chain-trans (tops-reach s (r .globals .unique) (stands .tops)) (found .listed .reached)
 
   pub reach-globals : Reach s 20 (r .globals .at)
-  reach-globals = globals-reach s 0 (r .globals) (passing s 0 (r .globals) (r .passes) .globals)
+  reach-globals = globals-reach s lent (r .globals) (passing s lent (r .globals) (r .passes) .globals)
 
   abbrev record-of : Listed s (r .sheet .position) (r .cell)
   record-of = found .listed

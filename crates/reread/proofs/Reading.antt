@@ -49,7 +49,7 @@ new-silent (Truth t) = refl
 new-silent (Error e) = refl
 
 -- ---- a correction that is granted
-module _ {s : List ℕ} {n row column : ℕ} {v : NewValue} {f : Field} {p b : ℕ} (r : Granted s n row column v f p b) (held : Held v) where
+module _ {s : List ℕ} {lent n row column : ℕ} {v : NewValue} {f : Field} {p b : ℕ} (r : Granted s lent n row column v f p b) (held : Held v) where
   abbrev s′ : List ℕ
   s′ = streamAfter s (writes f p b)
 
@@ -84,7 +84,7 @@ module _ {s : List ℕ} {n row column : ℕ} {v : NewValue} {f : Field} {p b : �
   -- ---- a sheet
   module _ (m : ℕ) (x : Sheet) (i : Nth (sheetsOf s) m x) where
     stand : SheetStands s g x
-    stand = sheets-stand s 0 g (r .passes) m x i
+    stand = sheets-stand s lent g (r .passes) m x i
 
     near-sheet : Beside s a e (x .position)
     near-sheet = near (chain-trans (reach-globals r) (tops-reach s (g .unique) (stand .tops)))
@@ -110,7 +110,7 @@ module _ {s : List ℕ} {n row column : ℕ} {v : NewValue} {f : Field} {p b : �
         let u = field-is r in
         let o = j .ends in
         let y = found r .ends in
-        go (stand .end) (stands r .end) (x .position) (r .sheet .position) (sheets-apart s 0 g (r .passes) m n x (r .sheet) i (r .nth) other stand (stands r)) (omega arith)
+        go (stand .end) (stands r .end) (x .position) (r .sheet .position) (sheets-apart s lent g (r .passes) m n x (r .sheet) i (r .nth) other stand (stands r)) (omega arith)
       where
         go : (e₁ e₂ p₁ p₂ : ℕ) → (e₁ ≤ p₂) ⊎ (e₂ ≤ p₁) → (p₁ < e₂) × (p₂ < e₁) → ⊥
         go e₁ e₂ p₁ p₂ (inl l) h = omega arith
@@ -163,34 +163,34 @@ module _ {s : List ℕ} {n row column : ℕ} {v : NewValue} {f : Field} {p b : �
   -- ---- all sheets
   sheets-read : map (sheetReading s′) (sheetsOf s′) ≡ onNth n (replacedSheet row column (newOf v)) (map (sheetReading s) (sheetsOf s))
   sheets-read =
-      ap (map (sheetReading s′)) (sym (sheets-stay s n row column v f p b held r))
+      ap (map (sheetReading s′)) (sym (sheets-stay s lent n row column v f p b held r))
       ∙ on-nth (sheetReading s) (sheetReading s′) (replacedSheet row column (newOf v)) (sheetsOf s) n other-sheet this-sheet
 
   -- ---- the strings
-  strings-read : onGlobals s′ (globalsOf s′ 0) ≡ onGlobals s (globalsOf s 0)
+  strings-read : onGlobals s′ (globalsOf s′ lent) ≡ onGlobals s (globalsOf s lent)
   strings-read =
       let l = reach-ahead s (reach-found r) in
       let k = inside c in
-      let h = passing s 0 g (r .passes) .globals in
-      ap (onGlobals s′) (globals-stay s n row column v f p b held r)
-      ∙ strings-kept s s′ (c .size) (g .at) (same-before c 0 (g .at + 2) (omega arith)) g refl (globals-tabled s 0 g h)
+      let h = passing s lent g (r .passes) .globals in
+      ap (onGlobals s′) (globals-stay s lent n row column v f p b held r)
+      ∙ strings-kept s s′ (c .size) (g .at) (same-before c 0 (g .at + 2) (omega arith)) g refl (globals-tabled s lent g h)
       ∙ ap (onGlobals s) (sym h)
 
   -- ---- the whole
-  pub reading-replaced : readingOf s′ ≡ replaced n row column (newOf v) (readingOf s)
+  pub reading-replaced : readingOf s′ lent ≡ replaced n row column (newOf v) (readingOf s lent)
   unfolding readingOf
   reading-replaced = λ y. record { sheets = sheets-read y; strings = strings-read y }
 
 -- ---- the claims
 pub reads-replaced : ReadsReplaced
-reads-replaced s n row column v f p b held h = reading-replaced (granted s n row column v f p b h) held
+reads-replaced s lent sheets n row column v f p b held h = reading-replaced (granted s lent sheets n row column v f p b h) held
 
 pub one-before : OneBefore
-one-before s n row column v f p b h =
-    let r = granted s n row column v f p b h in
-    ap length (value-one s n row column (r .sheet) (r .nth) (r .cell) (r .only))
+one-before s lent sheets n row column v f p b h =
+    let r = granted s lent sheets n row column v f p b h in
+    ap length (value-one s lent n row column (r .sheet) (r .nth) (r .cell) (r .only))
 
 pub new-after : NewAfter
-new-after s n row column v f p b held h =
-    let r = granted s n row column v f p b h in
-    ap (valuesAt n row column) (reads-replaced s n row column v f p b held h) ∙ value-new s n row column (r .sheet) (r .nth) (r .cell) (r .only) (newOf v)
+new-after s lent sheets n row column v f p b held h =
+    let r = granted s lent sheets n row column v f p b h in
+    ap (valuesAt n row column) (reads-replaced s lent sheets n row column v f p b held h) ∙ value-new s lent n row column (r .sheet) (r .nth) (r .cell) (r .only) (newOf v)

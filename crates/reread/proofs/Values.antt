@@ -49,7 +49,7 @@ address-replaced row column v (c ∷ l) = go (hasAddress row column c) refl (add
     go false q h = rw q h
 
 -- ---- sheet n has one cell of the address
-module _ (s : List ℕ) (n row column : ℕ) (x : Sheet) (i : Nth (sheetsOf s) n x) (c : Cell) (alone : cellsAt row column (listedOf s x) ≡ c ∷ []) where
+module _ (s : List ℕ) (lent n row column : ℕ) (x : Sheet) (i : Nth (sheetsOf s) n x) (c : Cell) (alone : cellsAt row column (listedOf s x) ≡ c ∷ []) where
   address-one : cellsOfAddress row column (map (cellReading s) (listedOf s x)) ≡ cellReading s c ∷ []
   address-one = address-read s row column (listedOf s x) ∙ ap (map (cellReading s)) alone
 
@@ -59,11 +59,11 @@ module _ (s : List ℕ) (n row column : ℕ) (x : Sheet) (i : Nth (sheetsOf s) n
   abbrev values : SheetReading → List CellValue
   values y = map value (cellsOfAddress row column (y .cells))
 
-  pub value-one : valuesAt n row column (readingOf s) ≡ c .value ∷ []
+  pub value-one : valuesAt n row column (readingOf s lent) ≡ c .value ∷ []
   unfolding valuesAt readingOf
   value-one = nth-map (sheetReading s) values [] i ∙ ap (map value) address-one
 
-  pub value-new : (v : CellValue) → valuesAt n row column (replaced n row column v (readingOf s)) ≡ v ∷ []
+  pub value-new : (v : CellValue) → valuesAt n row column (replaced n row column v (readingOf s lent)) ≡ v ∷ []
   unfolding valuesAt readingOf
   value-new v =
       nth-on (sheetReading s) (replacedSheet row column v) values [] i

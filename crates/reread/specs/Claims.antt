@@ -28,20 +28,20 @@ use Rattle.reread.specs.Replaced.{replaced, valuesAt}
 -- its reading is the old one with the value of that cell replaced by the new one: all else is equal, and in order
 abbrev pub ReadsReplaced : Type 0
 ReadsReplaced =
-    (s : List ℕ) (n row column : ℕ) (v : NewValue) (f : Field) (p b : ℕ) → Held v → correctionOf s n row column v ≡ writes f p b
-    → readingOf (streamAfter s (writes f p b)) ≡ replaced n row column (newOf v) (readingOf s)
+    (s : List ℕ) (lent sheets n row column : ℕ) (v : NewValue) (f : Field) (p b : ℕ) → Held v → correctionOf s lent sheets n row column v ≡ writes f p b
+    → readingOf (streamAfter s (writes f p b)) lent ≡ replaced n row column (newOf v) (readingOf s lent)
 
 -- that cell is one: before, sheet n had one cell of the address
 abbrev pub OneBefore : Type 0
 OneBefore =
-    (s : List ℕ) (n row column : ℕ) (v : NewValue) (f : Field) (p b : ℕ) → correctionOf s n row column v ≡ writes f p b
-    → length (valuesAt n row column (readingOf s)) ≡ 1
+    (s : List ℕ) (lent sheets n row column : ℕ) (v : NewValue) (f : Field) (p b : ℕ) → correctionOf s lent sheets n row column v ≡ writes f p b
+    → length (valuesAt n row column (readingOf s lent)) ≡ 1
 
 -- after, it has one still, and that has the new value
 abbrev pub NewAfter : Type 0
 NewAfter =
-    (s : List ℕ) (n row column : ℕ) (v : NewValue) (f : Field) (p b : ℕ) → Held v → correctionOf s n row column v ≡ writes f p b
-    → valuesAt n row column (readingOf (streamAfter s (writes f p b))) ≡ newOf v ∷ []
+    (s : List ℕ) (lent sheets n row column : ℕ) (v : NewValue) (f : Field) (p b : ℕ) → Held v → correctionOf s lent sheets n row column v ≡ writes f p b
+    → valuesAt n row column (readingOf (streamAfter s (writes f p b)) lent) ≡ newOf v ∷ []
 
 -- ---- the text results
 -- the units of a cell's text result are those of a STRING after its formula, of which nothing is refused; and from the place of its value field

@@ -31,6 +31,9 @@ use Rattle.station_c.specs.declared.Cells.{Cells}
 use Rattle.station_c.specs.declared.Filled.{Filled}
 use Rattle.station_c.specs.declared.tables.FilledTable.{FilledTable}
 use Rattle.places.specs.declared.Filled as places
+use Rattle.pair.specs.Pair.{pairCorrectionOf, sessionAfter, answerOf as pairAnswer}
+use Rattle.pairanswers.specs.declared.Answer as pairs
+use Rattle.pairanswers.specs.Answers.{answerSeen}
 use Rattle.batch.specs.declared.Filled as batch
 use Rattle.batch.specs.Batch.{Batch, filledSeen as batchSeen}
 use Rattle.station_c.specs.Answers.{checkSeen, judgeSeen, correctSeen, fetchSeen, textSeen, sheetSeen, cellsSeen, filledSeen, tableSeen}
@@ -52,11 +55,11 @@ judge-seen = seen judgeSeen
 
 -- w is the new value as the code made it
 module _ (s : List ℕ) (n row column : ℕ) (v : NewValue) {w : NewValue} (made : w ≡ v) where
-  pub correct-seen : {r x : change.Answer} {y : Answer} → r ≡ answerOf (correctionOf s n row column w) → r ≡ x → y ≡ correctSeen x → y ≡ correctSeen (answerOf (correctionOf s n row column v))
-  correct-seen i = seen correctSeen (i ∙ ap (λ (m : NewValue). answerOf (correctionOf s n row column m)) made)
+  pub correct-seen : {r x : change.Answer} {y : Answer} → r ≡ answerOf (correctionOf s 0 0 n row column w) → r ≡ x → y ≡ correctSeen x → y ≡ correctSeen (answerOf (correctionOf s 0 0 n row column v))
+  correct-seen i = seen correctSeen (i ∙ ap (λ (m : NewValue). answerOf (correctionOf s 0 0 n row column m)) made)
 
-  pub correct-left : {t : List ℕ} → t ≡ streamAfter s (correctionOf s n row column w) → t ≡ streamAfter s (correctionOf s n row column v)
-  correct-left i = i ∙ ap (λ (m : NewValue). streamAfter s (correctionOf s n row column m)) made
+  pub correct-left : {t : List ℕ} → t ≡ streamAfter s (correctionOf s 0 0 n row column w) → t ≡ streamAfter s (correctionOf s 0 0 n row column v)
+  correct-left i = i ∙ ap (λ (m : NewValue). streamAfter s (correctionOf s 0 0 n row column m)) made
 
 -- of an answer that is x, and of an answer a that the call gave as r
 pub units-told : {a x : Fetched} {y : Units} → a ≡ x → y ≡ fetchSeen x → y ≡ fetchSeen a
@@ -85,3 +88,11 @@ filled-seen x i = ap (λ (g : batch.Filled). record { cells = g .cells; ended = 
 
 pub table-seen : {a r x : places.Filled} {y : FilledTable} → r ≡ a → r ≡ x → y ≡ tableSeen x → y ≡ tableSeen a
 table-seen = seen tableSeen
+
+-- the same over a template t
+module _ (t s : List ℕ) (n row column : ℕ) (v : NewValue) {w : NewValue} (made : w ≡ v) where
+  pub pair-seen : {y : pairs.Answer} → y ≡ answerSeen (pairAnswer (pairCorrectionOf t s n row column w)) → y ≡ answerSeen (pairAnswer (pairCorrectionOf t s n row column v))
+  pair-seen i = i ∙ ap (λ (m : NewValue). answerSeen (pairAnswer (pairCorrectionOf t s n row column m))) made
+
+  pub pair-left : {x : List ℕ} → x ≡ sessionAfter s (pairCorrectionOf t s n row column w) → x ≡ sessionAfter s (pairCorrectionOf t s n row column v)
+  pair-left i = i ∙ ap (λ (m : NewValue). sessionAfter s (pairCorrectionOf t s n row column m)) made

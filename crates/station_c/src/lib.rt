@@ -1,4 +1,5 @@
 // The five questions as C functions. Each is defined for every argument; a refusal's number is 0 where there is none, and what isn't answered is 0.
+mod pairs;
 mod sessions;
 mod tables;
 mod texts;
@@ -312,7 +313,7 @@ pub extern "C" fn station_next_cells(
     }
 }
 
-fn new_value(kind: u8, number: f64, index: u32, byte: u8) -> NewValue
+pub fn new_value(kind: u8, number: f64, index: u32, byte: u8) -> NewValue
     ensures { λ r. ⌜ r ≡ newValue kind number index byte ⌝ }
 {
     match kind {
@@ -335,8 +336,8 @@ pub extern "C" fn station_correct(
     index: u32,
     byte: u8,
 ) -> Answer
-    ensures { λ r. ⌜ r ≡ correctSeen (correctedOf (correctionOf (now (s .entry)) sheet row column (newValue kind number index byte))) ⌝ }
-    ensures { λ r. ⌜ now (s .exit) ≡ streamAfter (now (s .entry)) (correctionOf (now (s .entry)) sheet row column (newValue kind number index byte)) ⌝ }
+    ensures { λ r. ⌜ r ≡ correctSeen (correctedOf (correctionOf (now (s .entry)) 0 0 sheet row column (newValue kind number index byte))) ⌝ }
+    ensures { λ r. ⌜ now (s .exit) ≡ streamAfter (now (s .entry)) (correctionOf (now (s .entry)) 0 0 sheet row column (newValue kind number index byte)) ⌝ }
 {
     match correction::correct(s, sheet, row, column, new_value(kind, number, index, byte)) {
         change::Answer::Granted => Answer {

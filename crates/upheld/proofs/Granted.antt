@@ -37,7 +37,7 @@ use Rattle.reading.specs.declared.Place.{Place}
 use Rattle.reading.specs.Cells.{placeAt, nextPart, otherItem, onFound, recordItem, onHeader, cellItem, remaining, listedFrom}
 use Rattle.reading.specs.Reading.{listedOf}
 use Rattle.reading.proofs.Laws.{Here, found-there}
-use Rattle.correction.specs.Correction.{refuses, writes, cellsAt, onPlan, onCells, correctionOf}
+use Rattle.correction.specs.Correction.{refuses, writes, cellsAt, onPlan, onCells, noSheet, correctionOf}
 use Rattle.chain.specs.Chain.{here, Reach, Every, Nth}
 use Rattle.chain.proofs.Chain.{chain-trans, reach-one, Keeps, collect-every, nth-either}
 use Rattle.upheld.specs.Granted.{Granted, Listed}
@@ -46,29 +46,29 @@ refuses-not : {A : Type 0} {n o p b : ℕ} {f : Field} → refuses n o ≡ write
 refuses-not h = never (cc)
 
 -- ---- the correction, case by case
-module _ (s : List ℕ) (n row column : ℕ) (v : NewValue) (f : Field) (p b : ℕ) where
-  module _ (g : Globals) (passes : checkedOf s 0 ≡ Right g) (x : Sheet) (is : Nth (sheetsOf s) n x) where
-    by-plan : (c : Cell) → cellsAt row column (listedOf s x) ≡ c ∷ [] → (y : Plan) → planOf (c .kind) v (g .unique) ≡ y → onPlan c y ≡ writes f p b → Granted s n row column v f p b
+module _ (s : List ℕ) (lent sheets n row column : ℕ) (v : NewValue) (f : Field) (p b : ℕ) where
+  module _ (g : Globals) (passes : checkedOf s lent ≡ Right g) (x : Sheet) (is : Nth (sheetsOf s) n x) where
+    by-plan : (c : Cell) → cellsAt row column (listedOf s x) ≡ c ∷ [] → (y : Plan) → planOf (c .kind) v (g .unique) ≡ y → onPlan c y ≡ writes f p b → Granted s lent n row column v f p b
     by-plan c i (plan.Put m) j h =
         let q : m ≡ b = cc in
         record { globals = g; passes = passes; sheet = x; nth = is; cell = c; only = i; plan = j ∙ ap plan.Put q; kind = cc; field = cc }
     by-plan c i (plan.Refused m o) j h = refuses-not h
 
-    by-cells : (l : List Cell) → cellsAt row column (listedOf s x) ≡ l → onCells v (g .unique) l ≡ writes f p b → Granted s n row column v f p b
+    by-cells : (l : List Cell) → cellsAt row column (listedOf s x) ≡ l → onCells v (g .unique) l ≡ writes f p b → Granted s lent n row column v f p b
     by-cells [] i h = refuses-not h
     by-cells (c ∷ []) i h = by-plan c i (planOf (c .kind) v (g .unique)) refl h
     by-cells (c ∷ d ∷ l) i h = refuses-not h
 
-  by-checked : (x : Checked) → checkedOf s 0 ≡ x
-      → onChecked refuses (λ (g : Globals). nth (sheetsOf s) n (λ (x : Sheet). onCells v (g .unique) (cellsAt row column (listedOf s x))) (refuses 11 0)) x ≡ writes f p b → Granted s n row column v f p b
+  by-checked : (x : Checked) → checkedOf s lent ≡ x
+      → onChecked refuses (λ (g : Globals). nth (sheetsOf s) n (λ (x : Sheet). onCells v (g .unique) (cellsAt row column (listedOf s x))) (refuses (noSheet sheets n) 0)) x ≡ writes f p b → Granted s lent n row column v f p b
   by-checked (Right g) i h =
-      nth-either (λ (x : Sheet). onCells v (g .unique) (cellsAt row column (listedOf s x))) (refuses 11 0) (writes f p b) (Granted s n row column v f p b) (sheetsOf s) n
+      nth-either (λ (x : Sheet). onCells v (g .unique) (cellsAt row column (listedOf s x))) (refuses (noSheet sheets n) 0) (writes f p b) (Granted s lent n row column v f p b) (sheetsOf s) n
       (λ x j e. by-cells g i x j (cellsAt row column (listedOf s x)) refl e) (λ _ e. refuses-not e) h
   by-checked (Wrong m o) i h = refuses-not h
 
-  pub granted : correctionOf s n row column v ≡ writes f p b → Granted s n row column v f p b
+  pub granted : correctionOf s lent sheets n row column v ≡ writes f p b → Granted s lent n row column v f p b
   unfolding correctionOf
-  granted h = by-checked (checkedOf s 0) refl h
+  granted h = by-checked (checkedOf s lent) refl h
 
 -- ---- each listed cell stands in a record
 module _ (s : List ℕ) (from : ℕ) where

@@ -110,7 +110,7 @@ unfolding passedRecord hasText
 plain-passed s at t e h = sym (pick-false (More (pastParent e)) _ _ _ (sym (pick-ne false _ _ t 0x0006 h refl)) refl)
 
 -- ---- the correction
-module _ (s : List ℕ) (n row column : ℕ) (v : NewValue) (f : Field) (p b : ℕ) (held : Held v) (given : Granted s n row column v f p b) where
+module _ (s : List ℕ) (lent n row column : ℕ) (v : NewValue) (f : Field) (p b : ℕ) (held : Held v) (given : Granted s lent n row column v f p b) where
   -- the stream after it
   abbrev s′ : List ℕ
   s′ = streamAfter s (writes f p b)
@@ -206,11 +206,11 @@ module _ (s : List ℕ) (n row column : ℕ) (v : NewValue) (f : Field) (p b : �
   agrees = beside-agrees s s′ len a t z e is before after (g .unique) cells kept (not-type t s a z k below 0 zero-other)
 
   -- ---- it is reached from the end of the globals, and from the end of their BOF
-  passed : Passing s 0 g
-  passed = passing s 0 g (given .passes)
+  passed : Passing s lent g
+  passed = passing s lent g (given .passes)
 
   sheet-stands : SheetStands s g (given .sheet)
-  sheet-stands = sheets-stand s 0 g (given .passes) n (given .sheet) (given .nth)
+  sheet-stands = sheets-stand s lent g (given .passes) n (given .sheet) (given .nth)
 
   reach-sheet : Reach s (g .at) (given .sheet .position + 20)
   reach-sheet =
@@ -232,11 +232,11 @@ module _ (s : List ℕ) (n row column : ℕ) (v : NewValue) (f : Field) (p b : �
   reached = reach-start (startOf s (given .sheet)) refl (stands .reached)
 
   reached-first : Reach s 20 a
-  reached-first = chain-trans (globals-reach s 0 g (passed .globals)) reached
+  reached-first = chain-trans (globals-reach s lent g (passed .globals)) reached
 
   -- ---- what stays
-  pub globals-stay : globalsOf s′ 0 ≡ globals.At g
-  globals-stay = let l = reach-ahead s reached in globals-local s s′ 0 g len (λ j i m. before j i (omega arith)) (passed .globals)
+  pub globals-stay : globalsOf s′ lent ≡ globals.At g
+  globals-stay = let l = reach-ahead s reached in globals-local s s′ lent g len (λ j i m. before j i (omega arith)) (passed .globals)
 
   pub sheets-stay : sheetsOf s ≡ sheetsOf s′
   sheets-stay = beside-sheets s s′ len a t z e is before after (not-type t s a z k below 0x0085 boundsheet-other) 20 (inl reached-first)
@@ -244,10 +244,10 @@ module _ (s : List ℕ) (n row column : ℕ) (v : NewValue) (f : Field) (p b : �
   tops-stay : (topsFrom s′ (g .unique) (g .at) ≡ walked.Passed) × (bofsFrom s (g .unique) (g .at) ≡ bofsFrom s′ (g .unique) (g .at))
   tops-stay = tops-local s s′ (g .unique) (Beside s a e) agrees (g .at) (inl reached) (passed .tops)
 
-  pub checked-same : checkedOf s′ 0 ≡ checkedOf s 0
+  pub checked-same : checkedOf s′ lent ≡ checkedOf s lent
   checked-same =
-      passes s′ 0 g (record { short = rw (← len) (passed .short); globals = globals-stay; tops = tops-stay .0; agree = ap₂ agreementOf (sym sheets-stay) (sym (tops-stay .1)) ∙ passed .agree })
+      passes s′ lent g (record { short = rw (← len) (passed .short); globals = globals-stay; tops = tops-stay .0; agree = ap₂ agreementOf (sym sheets-stay) (sym (tops-stay .1)) ∙ passed .agree })
       ∙ sym (given .passes)
 
 pub upheld : Upheld
-upheld s n row column v f p b held h = checked-same s n row column v f p b held (granted s n row column v f p b h)
+upheld s lent sheets n row column v f p b held h = checked-same s lent n row column v f p b held (granted s lent sheets n row column v f p b h)

@@ -21,9 +21,9 @@ use Rattle.correction.specs.Correction.{cellsAt}
 use Rattle.chain.specs.Chain.{Reach, Nth}
 
 -- the stream passes, sheet n has one cell with the address, and b is the number for its value field, of kind f at p
-pub record Granted (s : List ℕ) (n row column : ℕ) (v : NewValue) (f : Field) (p b : ℕ) : Type 0 where
+pub record Granted (s : List ℕ) (lent n row column : ℕ) (v : NewValue) (f : Field) (p b : ℕ) : Type 0 where
   pub globals : Globals
-  pub passes : checkedOf s 0 ≡ Right globals
+  pub passes : checkedOf s lent ≡ Right globals
   pub sheet : Sheet
   pub nth : Nth (sheetsOf s) n sheet
   pub cell : Cell

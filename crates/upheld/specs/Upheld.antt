@@ -12,5 +12,5 @@ use Rattle.correction.specs.Correction.{correctionOf, writes, streamAfter}
 -- and the same unique count
 abbrev pub Upheld : Type 0
 Upheld =
-    (s : List ℕ) (n row column : ℕ) (v : NewValue) (f : Field) (p b : ℕ) → Held v → correctionOf s n row column v ≡ writes f p b
-    → checkedOf (streamAfter s (writes f p b)) 0 ≡ checkedOf s 0
+    (s : List ℕ) (lent sheets n row column : ℕ) (v : NewValue) (f : Field) (p b : ℕ) → Held v → correctionOf s lent sheets n row column v ≡ writes f p b
+    → checkedOf (streamAfter s (writes f p b)) lent ≡ checkedOf s lent

@@ -1,5 +1,6 @@
 //! The questions, and how each is answered.
 
+use crate::pairs;
 use crate::words::{bytes, number, numbers};
 use station::{Cell, Pair, Refusal, LONGEST_STRING};
 use std::fmt::Write;
@@ -13,7 +14,7 @@ struct Question {
 }
 
 /// All of them.
-const QUESTIONS: [Question; 8] = [
+const QUESTIONS: [Question; 10] = [
     Question {
         name: "check",
         words: "S",
@@ -49,6 +50,20 @@ const QUESTIONS: [Question; 8] = [
         words: "S TABLE INDEX UNITS",
         asks: "a string by its place in a table of numbers joined by commas, for a buffer of UNITS units",
         answer: fetch_through,
+    },
+    Question {
+        name: "pair",
+        words: "T S QUESTION",
+        asks: "a question over a template (T) and a session, its words with single blanks between: check; sheets; sheet N; cells N; \
+               fetch session|template INDEX UNITS; text SHEET ROW COLUMN UNITS; correct SHEET ROW COLUMN KIND VALUE, where KIND is number \
+               (VALUE the 64 bits in hex), text, truth or error (VALUE in hex)",
+        answer: pairs::pair,
+    },
+    Question {
+        name: "pair-fill",
+        words: "T S NUMBERS NUMBERS",
+        asks: "the places of the strings of both, for a table of NUMBERS numbers for the template and one for the session",
+        answer: pairs::fill,
     },
     Question {
         name: "profile",
@@ -156,7 +171,7 @@ fn fetched(
 }
 
 /// How many units there are, and the units as one run of hex; `-` for none.
-fn units(units: &[u16]) -> String {
+pub fn units(units: &[u16]) -> String {
     let mut line = format!("units {} ", units.len());
     for unit in units {
         // Writing to a string never fails.
@@ -169,7 +184,7 @@ fn units(units: &[u16]) -> String {
 }
 
 /// No stream has strings for more numbers, and every number of a table is answered: a line has its limits.
-const LARGEST_TABLE: u32 = 16_777_216;
+pub const LARGEST_TABLE: u32 = 16_777_216;
 
 fn fill(words: &[&[u8]]) -> Option<String> {
     let [stream, size] = words else { return None };
@@ -179,14 +194,14 @@ fn fill(words: &[&[u8]]) -> Option<String> {
     }
     let mut table = vec![0; size as usize];
     Some(match station::fill(&stream, &mut table) {
-        Ok(_) => places(&table),
+        Ok(_) => format!("filled {}", numbers_of(&table)),
         Err(refusal) => refusal.line(),
     })
 }
 
 /// Every number of a table; `-` where it has none.
-fn places(table: &[u32]) -> String {
-    let mut line = String::from("filled ");
+pub fn numbers_of(table: &[u32]) -> String {
+    let mut line = String::new();
     for (place, number) in table.iter().enumerate() {
         let between = if place == 0 { "" } else { "," };
         // Writing to a string never fails.

@@ -35,6 +35,25 @@ pub fn number(word: &[u8]) -> Option<u32> {
     std::str::from_utf8(word).ok()?.parse().ok()
 }
 
+/// A decimal number that a byte holds.
+pub fn byte(word: &[u8]) -> Option<u8> {
+    number(word)?.try_into().ok()
+}
+
+/// The 64 bits of a number, in sixteen hex digits.
+pub fn bits(word: &[u8]) -> Option<u64> {
+    let bytes = bytes(word)?.try_into().ok()?;
+    Some(u64::from_be_bytes(bytes))
+}
+
+/// An error code, in two hex digits.
+pub fn code(word: &[u8]) -> Option<u8> {
+    match bytes(word)?[..] {
+        [code] => Some(code),
+        _ => None,
+    }
+}
+
 /// Decimal numbers joined by commas; `-` is none.
 pub fn numbers(word: &[u8]) -> Option<Vec<u32>> {
     if word == NONE {
@@ -65,6 +84,18 @@ mod tests {
             assert_eq!(number(wrong.as_bytes()), None, "{wrong}");
         }
     }
+
+    #[test]
+    fn bytes_bits_and_codes() {
+        assert_eq!((byte(b"255"), byte(b"256")), (Some(255), None));
+        assert_eq!(bits(b"400921fb54442D18"), Some(0x4009_21FB_5444_2D18));
+        assert_eq!(code(b"2a"), Some(0x2A));
+        for wrong in ["", "-", "400921FB54442D1", "400921FB54442D1800", "1"] {
+            assert_eq!(bits(wrong.as_bytes()), None, "{wrong}");
+            assert_eq!(code(wrong.as_bytes()), None, "{wrong}");
+        }
+    }
+
     #[test]
     fn numbers_joined() {
         assert_eq!(numbers(b"-"), Some(vec![]));

@@ -1,7 +1,7 @@
 //! ask as another reader meets it: a process that is given lines and answers with lines. What it must answer is written down after document 01, stored
 //! with the cases, or taken from the second reader.
 
-use second_reader::{Between, Refusal, Value};
+use second_reader::{Between, PairRefusal, Refusal, Value, Whose};
 use std::fs;
 use std::io::{BufRead, BufReader, Write};
 use std::path::{Path, PathBuf};
@@ -539,6 +539,249 @@ fn joined(numbers: &[u32]) -> String {
     }
 }
 
+/// Questions about the stored pair, and what document 02 answers to them. The template has two sheets and three strings (`time`, `pulse`, `resting`), the session, DAY, one
+/// sheet and no strings; CELLS is a session with three of its own.
+const PAIRS: [(&str, &str); 41] = [
+    ("pair\tTEMPLATE\tDAY\tcheck", "ok"),
+    ("pair\t-\t-\tcheck", "refused 3 at 0 of template"),
+    ("pair\tTEMPLATE\t-\tcheck", "refused 3 at 0 of session"),
+    ("pair\tDAY\tTEMPLATE\tcheck", "refused 9 at 61 of template"),
+    ("pair\tTEMPLATE\tDAY\tsheets", "2"),
+    ("pair\tTEMPLATE\t-\tsheets", "refused 3 at 0 of session"),
+    (
+        "pair\tTEMPLATE\tDAY\tsheet 0",
+        "session type 0 width 1 rows 2 name at 32 bytes 5",
+    ),
+    (
+        "pair\tTEMPLATE\tDAY\tsheet 1",
+        "template type 0 width 1 rows 2 name at 85 bytes 3",
+    ),
+    ("pair\tTEMPLATE\tDAY\tsheet 2", "refused 11 at 0"),
+    (
+        "pair\tTEMPLATE\tDAY\tcells 0",
+        "session ; 0 0 text 0 ; 0 1 text 1 ; 1 0 number 407E000000000000 ; 1 1 number 4051800000000000",
+    ),
+    (
+        "pair\tTEMPLATE\tDAY\tcells 1",
+        "template ; 0 0 text 2 ; 0 1 number 404E000000000000 ; 1 0 formula text",
+    ),
+    ("pair\tTEMPLATE\tDAY\tcells 2", "refused 11 at 0"),
+    (
+        "pair\tTEMPLATE\tDAY\tfetch session 0 4",
+        "template units 4 00740069006D0065",
+    ),
+    (
+        "pair\tTEMPLATE\tCELLS\tfetch session 0 4294967295",
+        "session units 3 006F006E0065",
+    ),
+    (
+        "pair\tTEMPLATE\tCELLS\tfetch template 0 4",
+        "template units 4 00740069006D0065",
+    ),
+    ("pair\tTEMPLATE\tCELLS\tfetch session 2 0", "session units 0 -"),
+    ("pair\tTEMPLATE\tDAY\tfetch session 0 3", "refused 12 at 0"),
+    ("pair\tTEMPLATE\tDAY\tfetch session 3 9", "refused 11 at 0"),
+    (
+        "pair\tTEMPLATE\tDAY\ttext 1 1 0 20",
+        "template units 14 00620065006100740073002000610020006D0069006E007500740065",
+    ),
+    ("pair\tTEMPLATE\tDAY\ttext 0 1 0 20", "refused 11 at 0"),
+    (
+        "pair\tTEMPLATE\tDAY\tcorrect 0 1 1 number 4052200000000000",
+        "granted 118=2052",
+    ),
+    ("pair\tTEMPLATE\tDAY\tcorrect 0 0 0 text 2", "granted 71=02"),
+    ("pair\tTEMPLATE\tDAY\tcorrect 0 0 0 text 0", "granted -"),
+    ("pair\tTEMPLATE\tDAY\tcorrect 0 0 0 text 3", "refused 18 at 0"),
+    ("pair\tTEMPLATE\tDAY\tcorrect 0 0 0 truth 255", "refused 17 at 0"),
+    ("pair\tTEMPLATE\tDAY\tcorrect 1 0 0 text 0", "refused 17 at 0"),
+    ("pair\tTEMPLATE\tDAY\tcorrect 2 0 0 error 2A", "refused 11 at 0"),
+    (
+        "pair\tTEMPLATE\t-\tcorrect 1 0 0 text 0",
+        "refused 3 at 0 of session",
+    ),
+    ("pair-fill\tTEMPLATE\tDAY\t6\t0", "filled 32,20,39,20,47,20 / -"),
+    (
+        "pair-fill\tTEMPLATE\tCELLS\t7\t6",
+        "filled 32,20,39,20,47,20,4294967295 / 32,20,38,20,49,20",
+    ),
+    ("pair-fill\tTEMPLATE\tCELLS\t6\t5", "refused 12 at 0"),
+    ("pair-fill\tTEMPLATE\tCELLS\t5\t6", "refused 12 at 0"),
+    ("pair-fill\tDAY\tDAY\t6\t6", "refused 9 at 61 of template"),
+    ("pair\tTEMPLATE\tDAY", "wrong question"),
+    ("pair\tTEMPLATE\tDAY\tcheck ", "wrong question"),
+    ("pair\tTEMPLATE\tDAY\tsheet  0", "wrong question"),
+    ("pair\tTEMPLATE\tDAY\tsheet\t0", "wrong question"),
+    ("pair\tTEMPLATE\tDAY\tfetch both 0 4", "wrong question"),
+    ("pair\tTEMPLATE\tDAY\tcorrect 0 0 0 truth 256", "wrong question"),
+    ("pair\tTEMPLATE\tDAY\tcorrect 0 0 0 number 1", "wrong question"),
+    ("pair-fill\tTEMPLATE\tDAY\t6", "wrong question"),
+];
+
+#[test]
+fn a_template_and_a_session() {
+    let stored = |name: &str| {
+        let case = Path::new(env!("CARGO_MANIFEST_DIR")).join("../../cases");
+        hex(&fs::read(case.join(name)).expect("a stored case"))
+    };
+    let streams = [
+        ("TEMPLATE", stored("template.in")),
+        ("DAY", stored("day.in")),
+        ("CELLS", stored("cells.in")),
+    ];
+    let with_streams = |question: &str| {
+        let question = question.to_string();
+        streams.iter().fold(question, |question, (name, stream)| {
+            question.replace(name, stream)
+        })
+    };
+    let questions = PAIRS.map(|(question, _)| with_streams(question));
+    for ((question, wanted), answer) in PAIRS.iter().zip(answers(&questions)) {
+        assert_eq!(answer, *wanted, "{question}");
+    }
+}
+
+fn whose(whose: Whose) -> &'static str {
+    match whose {
+        Whose::Session => "session",
+        Whose::Template => "template",
+    }
+}
+
+fn pair_refused(refused_by: PairRefusal) -> String {
+    match refused_by {
+        PairRefusal::Stream(of, refusal) => format!("{} of {}", refused(refusal), whose(of)),
+        PairRefusal::Question(refusal) => refused(refusal),
+    }
+}
+
+/// The bytes that are others now, run by run.
+fn changes(before: &[u8], after: &[u8]) -> String {
+    let differs = |at: &usize| before[*at] != after[*at];
+    let mut runs: Vec<(usize, String)> = Vec::new();
+    for at in (0..before.len()).filter(differs) {
+        let hex = format!("{:02X}", after[at]);
+        match runs.last_mut() {
+            Some((start, run)) if *start + run.len() / 2 == at => run.push_str(&hex),
+            _ => runs.push((at, hex)),
+        }
+    }
+    let runs: Vec<_> = runs.iter().map(|(at, run)| format!("{at}={run}")).collect();
+    match &runs[..] {
+        [] => "-".to_string(),
+        runs => runs.join(","),
+    }
+}
+
+/// The question of a correction, with its value as it is written.
+fn correction(asked: &streams::Correction) -> (String, second_reader::NewValue) {
+    use second_reader::NewValue;
+    let (kind, value, new) = match asked.value {
+        streams::NewValue::Number(number) => (
+            "number",
+            format!("{:016X}", number.to_bits()),
+            NewValue::Number(number),
+        ),
+        streams::NewValue::Text(index) => ("text", index.to_string(), NewValue::Text(index)),
+        streams::NewValue::Truth(truth) => ("truth", truth.to_string(), NewValue::Truth(truth)),
+        streams::NewValue::Error(code) => ("error", format!("{code:02x}"), NewValue::Error(code)),
+    };
+    let (sheet, row, column) = (asked.sheet, asked.row, asked.column);
+    let question = format!("correct {sheet} {row} {column} {kind} {value}");
+    (question, new)
+}
+
+/// The answers of the second reader to every question over a pair.
+fn asked_of(seed: u64, pair: &streams::Pair) -> Vec<(String, Result<String, PairRefusal>)> {
+    let (template, session) = (&pair.template[..], &pair.session[..]);
+    let fetched = |answer: Result<(Whose, usize), PairRefusal>, buffer: &[u16]| {
+        answer.map(|(of, count)| format!("{} {}", whose(of), units(&buffer[..count])))
+    };
+    let checked = second_reader::pair_check(template, session);
+    let number = streams::pair_sheet(seed, pair);
+    let (_, name) = second_reader::pair_sheet_name(template, session, number);
+    let sheet = second_reader::pair_sheet(template, session, number).map(|sheet| {
+        let stream = match sheet.whose {
+            Whose::Session => session,
+            Whose::Template => template,
+        };
+        format!(
+            "{} type {} width {} rows {} name at {} bytes {}",
+            whose(sheet.whose),
+            sheet.sheet_type as u8,
+            1 + u8::from(sheet.wide),
+            sheet.rows,
+            name.as_ptr() as usize - stream.as_ptr() as usize,
+            name.len()
+        )
+    });
+    let mut asked = vec![
+        ("check".to_string(), checked.map(|_| "ok".to_string())),
+        (
+            "sheets".to_string(),
+            checked.map(|sheets| sheets.to_string()),
+        ),
+        (format!("sheet {number}"), sheet),
+    ];
+    let ask = streams::pair_fetch(seed, pair);
+    let of = match ask.of_template {
+        true => Whose::Template,
+        false => Whose::Session,
+    };
+    let mut buffer = vec![0; ask.units];
+    let answer = second_reader::pair_fetch(template, session, of, ask.index, &mut buffer);
+    let question = format!("fetch {} {} {}", whose(of), ask.index, ask.units);
+    asked.push((question, fetched(answer, &buffer)));
+    let ask = streams::pair_text(seed, pair);
+    let (sheet, row, column) = (ask.sheet, ask.row, ask.column);
+    let mut buffer = vec![0; ask.units];
+    let answer = second_reader::pair_text(template, session, sheet, row, column, &mut buffer);
+    let question = format!("text {sheet} {row} {column} {}", ask.units);
+    asked.push((question, fetched(answer, &buffer)));
+    let ask = streams::pair_correction(seed, pair);
+    let (question, value) = correction(&ask);
+    let mut changed = session.to_vec();
+    let (sheet, row, column) = (ask.sheet, ask.row, ask.column);
+    let answer = second_reader::pair_correct(template, &mut changed, sheet, row, column, value);
+    let line = |()| format!("granted {}", changes(session, &changed));
+    asked.push((question, answer.map(line)));
+    asked
+}
+
+#[test]
+fn made_pairs() {
+    let (mut questions, mut wanted) = (Vec::new(), Vec::new());
+    for seed in 0..300 {
+        let pair = streams::pair(seed);
+        let (template, session) = (hex(&pair.template), hex(&pair.session));
+        for (question, answer) in asked_of(seed, &pair) {
+            questions.push(format!("pair\t{template}\t{session}\t{question}"));
+            wanted.push(answer.unwrap_or_else(pair_refused));
+        }
+        let tables = streams::pair_numbers(seed, &pair).map(|numbers| vec![0; numbers]);
+        let [mut first, mut second] = tables;
+        let sizes = format!("{}\t{}", first.len(), second.len());
+        questions.push(format!("pair-fill\t{template}\t{session}\t{sizes}"));
+        let filled =
+            second_reader::pair_fill(&pair.template, &pair.session, &mut first, &mut second);
+        let line = |_| format!("filled {} / {}", joined(&first), joined(&second));
+        wanted.push(filled.map_or_else(pair_refused, line));
+    }
+    assert_eq!(answers(&questions), wanted);
+    for part in [
+        "of template",
+        "of session",
+        "session units ",
+        "template type ",
+        "granted ",
+        "filled ",
+        "refused 17 ",
+    ] {
+        let met = wanted.iter().filter(|line| line.contains(part));
+        assert!(met.count() > 3, "{part}");
+    }
+}
+
 #[test]
 fn help_and_arguments() {
     let run = |argument| {
@@ -557,6 +800,8 @@ fn help_and_arguments() {
         "text S SHEET ROW COLUMN UNITS ",
         "fill S NUMBERS ",
         "fetch-through S TABLE INDEX UNITS ",
+        "pair T S QUESTION ",
+        "pair-fill T S NUMBERS NUMBERS ",
         "profile S ",
         "cadence S ROW ",
     ] {

@@ -4,13 +4,15 @@
 //! - `--all`: of each kind of stream, hostile ones too;
 //! - `--assert`: instructions alone, of a smaller stream of each kind; fails where a ratio is above its target;
 //! - `--peers`: beside other readers that the machine has;
-//! - `--places`: a million look-ups of strings through a table of places.
+//! - `--places`: a million look-ups of strings through a table of places;
+//! - `--pair`: the questions over a template and a session.
 
 #![forbid(unsafe_code)]
 
 mod compound;
 mod instructions;
 mod listers;
+mod pair;
 mod peers;
 mod places;
 mod plain;
@@ -128,9 +130,10 @@ fn main() -> ExitCode {
         ["--assert"] => every(&Big::ALL, keeps),
         ["--peers"] => peers::run(),
         ["--places"] => places::run(),
+        ["--pair"] => pair::run(),
         [WORK, name, file] => return work(name, file),
         _ => {
-            eprintln!("usage: bench [--all | --assert | --peers | --places]");
+            eprintln!("usage: bench [--all | --assert | --peers | --places | --pair]");
             return ExitCode::from(2);
         }
     };

@@ -1,8 +1,9 @@
 //! `compare [COUNT [FIRST]]`: asks the proved library and the second reader the same questions about made streams, formulas and corrections, one of
-//! each seed from FIRST (0) on, and about a made session of every second seed. Answers, offsets, and every lent byte and unit before and after must
-//! agree. Prints how often each refusal was met; the exit status is 1 where there was a difference, or where a refusal was met fewer than a hundred
-//! times in a run of 100,000 seeds or more.
+//! each seed from FIRST (0) on. Every second seed makes a session as sensors write it too, the others a template with its session. Answers, offsets, whose they are, and every lent byte, unit and number before and after must agree. Prints how often each
+//! refusal was met; the exit status is 1 where there was a difference, or where a refusal was met fewer than a hundred times in a run of 100,000 seeds or
+//! more.
 
+mod pairs;
 mod places;
 
 use std::collections::HashSet;
@@ -28,10 +29,28 @@ fn theirs<A>(answer: Result<A, second_reader::Refusal>) -> Outcome<A> {
     answer.map_err(|refusal| (refusal.number, refusal.offset))
 }
 
+/// How often the answers were met that are counted by themselves.
+#[derive(Default)]
+struct Met {
+    places: places::Met,
+    pairs: pairs::Met,
+}
+
+impl Met {
+    fn print(&self) {
+        self.places.print();
+        self.pairs.print();
+    }
+
+    fn rare(&self, least: u64) -> bool {
+        self.places.rare(least) || self.pairs.rare(least)
+    }
+}
+
 struct Comparison {
     differences: u64,
     counts: Counts,
-    met: places::Met,
+    met: Met,
 }
 
 impl Comparison {
@@ -240,23 +259,7 @@ impl Comparison {
 
     fn correct(&mut self, seed: u64, stream: &[u8]) {
         let question = streams::correction(seed, stream);
-        let (value, other) = match question.value {
-            streams::NewValue::Number(x) => (
-                station::NewValue::Number(x),
-                second_reader::NewValue::Number(x),
-            ),
-            streams::NewValue::Text(i) => {
-                (station::NewValue::Text(i), second_reader::NewValue::Text(i))
-            }
-            streams::NewValue::Truth(t) => (
-                station::NewValue::Truth(t),
-                second_reader::NewValue::Truth(t),
-            ),
-            streams::NewValue::Error(e) => (
-                station::NewValue::Error(e),
-                second_reader::NewValue::Error(e),
-            ),
-        };
+        let (value, other) = values(question.value);
         let (sheet, row, column) = (question.sheet, question.row, question.column);
         let mut changed = stream.to_vec();
         let mut changed_too = stream.to_vec();
@@ -319,7 +322,30 @@ impl Comparison {
         }
         if seed.is_multiple_of(2) {
             self.session(seed, &streams::session(seed));
+        } else {
+            self.pair(seed);
         }
+    }
+}
+
+/// A new value for each reader.
+fn values(value: streams::NewValue) -> (station::NewValue, second_reader::NewValue) {
+    match value {
+        streams::NewValue::Number(x) => (
+            station::NewValue::Number(x),
+            second_reader::NewValue::Number(x),
+        ),
+        streams::NewValue::Text(i) => {
+            (station::NewValue::Text(i), second_reader::NewValue::Text(i))
+        }
+        streams::NewValue::Truth(t) => (
+            station::NewValue::Truth(t),
+            second_reader::NewValue::Truth(t),
+        ),
+        streams::NewValue::Error(e) => (
+            station::NewValue::Error(e),
+            second_reader::NewValue::Error(e),
+        ),
     }
 }
 
@@ -436,7 +462,7 @@ fn main() -> ExitCode {
     let mut comparison = Comparison {
         differences: 0,
         counts: [0; 21],
-        met: places::Met::default(),
+        met: Met::default(),
     };
     let whole = count >= WHOLE;
     // at and over the greatest length, where two of three are over it
@@ -444,6 +470,7 @@ fn main() -> ExitCode {
         let stream = streams::longest(seed);
         comparison.check(seed, &stream);
         comparison.places(seed, &stream);
+        comparison.longest_pair(seed, &stream);
     }
     for seed in first..first + count {
         comparison.all(seed);

@@ -55,7 +55,7 @@ impl Comparison {
         let one = ours(station::fill(stream, &mut table));
         let two = theirs(second_reader::fill(stream, &mut other));
         self.count(&one);
-        self.met.fill[refused(&one)] += 1;
+        self.met.places.fill[refused(&one)] += 1;
         self.hold("fill", seed, (one, table), (two, other));
     }
 
@@ -69,7 +69,7 @@ impl Comparison {
             stream, table, index, &mut other,
         ));
         self.count(&one);
-        self.met.through[refused(&one)] += 1;
+        self.met.places.through[refused(&one)] += 1;
         self.hold("fetch through", seed, (one, buffer), (two, other));
     }
 

@@ -22,6 +22,8 @@
 //! # Ok::<(), station::Refusal>(())
 //! ```
 //!
+//! Many sessions may share the sheets and strings of one template: [`mod@pair`] has the questions over both.
+//!
 //! - A stream has at most 16,777,216 bytes; a longer one is refused with number 1.
 //! - After a refusal all lent memory holds what it held.
 //! - The library has no state, allocates nothing and takes no lock: any number of threads may ask at the same time, about one stream or many.
@@ -30,6 +32,7 @@
 
 #![warn(missing_docs)]
 
+pub mod pair;
 mod raw;
 
 use std::fmt;
@@ -108,7 +111,10 @@ const MEANINGS: [(u8, &str); 19] = [
     ),
     (15, "the formula has no such function, or uses it wrongly"),
     (16, "two or more cells have the address"),
-    (17, "the cell's kind does not take this kind of value"),
+    (
+        17,
+        "the cell's kind does not take this kind of value, or the sheet is the template's",
+    ),
     (18, "the value does not fit the cell"),
     (
         20,
@@ -160,6 +166,11 @@ pub fn check(stream: &[u8]) -> Result<Workbook<'_>, Refusal> {
 }
 
 impl<'a> Workbook<'a> {
+    /// Its bytes.
+    pub fn stream(&self) -> &'a [u8] {
+        self.stream
+    }
+
     /// Its sheets, in BOUNDSHEET order.
     pub fn sheets(&self) -> Sheets<'a> {
         Sheets {
@@ -763,6 +774,18 @@ pub enum NewValue {
     Error(u8),
 }
 
+impl NewValue {
+    /// As C has it: its kind, and the number, index or byte that goes with that.
+    fn parts(self) -> (u8, f64, u32, u8) {
+        match self {
+            NewValue::Number(number) => (0, number, 0, 0),
+            NewValue::Text(index) => (1, 0.0, index, 0),
+            NewValue::Truth(byte) => (2, 0.0, 0, byte),
+            NewValue::Error(byte) => (3, 0.0, 0, byte),
+        }
+    }
+}
+
 /// Writes one cell's value field, or leaves the stream as it is.
 pub fn correct(
     stream: &mut [u8],
@@ -771,12 +794,7 @@ pub fn correct(
     column: u32,
     value: NewValue,
 ) -> Result<(), Refusal> {
-    let (kind, number, index, byte) = match value {
-        NewValue::Number(number) => (0, number, 0, 0),
-        NewValue::Text(index) => (1, 0.0, index, 0),
-        NewValue::Truth(byte) => (2, 0.0, 0, byte),
-        NewValue::Error(byte) => (3, 0.0, 0, byte),
-    };
+    let (kind, number, index, byte) = value.parts();
     // SAFETY: the slice is valid for its length and lent to this call alone.
     let answer = unsafe {
         raw::station_correct(

@@ -75,6 +75,71 @@ pub struct FilledTable {
 }
 
 #[repr(C)]
+pub struct PairCheck {
+    pub whose: u8,
+    pub number: u8,
+    pub offset: usize,
+    pub table: u8,
+    pub sheet: usize,
+    pub template_sheets: usize,
+    pub template_strings: u32,
+    pub template_segment: usize,
+    pub template_at: usize,
+    pub template_end: usize,
+    pub session_sheets: usize,
+    pub session_strings: u32,
+    pub session_segment: usize,
+    pub session_at: usize,
+    pub session_end: usize,
+}
+
+#[repr(C)]
+pub struct PairSheet {
+    pub whose: u8,
+    pub number: u8,
+    pub offset: usize,
+    pub header: usize,
+    pub size: usize,
+    pub width: usize,
+    pub kind: u8,
+    pub rows: u32,
+}
+
+#[repr(C)]
+pub struct PairCells {
+    pub whose: u8,
+    pub number: u8,
+    pub offset: usize,
+    pub at: usize,
+    pub part: u16,
+    pub level: u8,
+}
+
+#[repr(C)]
+pub struct PairUnits {
+    pub whose: u8,
+    pub number: u8,
+    pub offset: usize,
+    pub units: usize,
+}
+
+#[repr(C)]
+pub struct PairAnswer {
+    pub whose: u8,
+    pub number: u8,
+    pub offset: usize,
+}
+
+#[repr(C)]
+pub struct PairFilled {
+    pub whose: u8,
+    pub number: u8,
+    pub offset: usize,
+    pub template_strings: u32,
+    pub session_strings: u32,
+}
+
+#[repr(C)]
 pub struct Profile {
     pub number: u8,
     pub offset: usize,
@@ -198,6 +263,70 @@ extern "C" {
         index: u32,
         byte: u8,
     ) -> Answer;
+    pub fn station_pair_check(
+        template: *const u8,
+        template_length: usize,
+        session: *const u8,
+        session_length: usize,
+    ) -> PairCheck;
+    pub fn station_pair_sheet(
+        template: *const u8,
+        template_length: usize,
+        session: *const u8,
+        session_length: usize,
+        sheet: u32,
+    ) -> PairSheet;
+    pub fn station_pair_cells(
+        template: *const u8,
+        template_length: usize,
+        session: *const u8,
+        session_length: usize,
+        sheet: u32,
+    ) -> PairCells;
+    pub fn station_pair_fetch(
+        template: *const u8,
+        template_length: usize,
+        session: *const u8,
+        session_length: usize,
+        asked: u8,
+        index: u32,
+        units: *mut u16,
+        room: usize,
+    ) -> PairUnits;
+    pub fn station_pair_text(
+        template: *const u8,
+        template_length: usize,
+        session: *const u8,
+        session_length: usize,
+        sheet: u32,
+        row: u32,
+        column: u32,
+        units: *mut u16,
+        room: usize,
+    ) -> PairUnits;
+    pub fn station_pair_correct(
+        template: *const u8,
+        template_length: usize,
+        session: *mut u8,
+        session_length: usize,
+        sheet: u32,
+        row: u32,
+        column: u32,
+        kind: u8,
+        number: f64,
+        index: u32,
+        byte: u8,
+    ) -> PairAnswer;
+    pub fn station_pair_fill(
+        template: *const u8,
+        template_length: usize,
+        session: *const u8,
+        session_length: usize,
+        template_table: *mut u32,
+        template_numbers: usize,
+        session_table: *mut u32,
+        session_numbers: usize,
+    ) -> PairFilled;
     pub fn station_profile(stream: *const u8, length: usize) -> Profile;
     pub fn station_cadence(stream: *const u8, length: usize, row: u32) -> Pair;
     pub fn station_pairs(stream: *const u8, length: usize) -> Pairs;

@@ -19,6 +19,7 @@ use std::thread;
 const ENOUGH: usize = 65_536;
 /// The stack that the threads have: more than enough, so that a question that needs too much is told and not ended.
 const LENT: usize = 2 << 20;
+const TEMPLATE: &[u8] = include_bytes!("../../../cases/template.in");
 const PAINT: [u8; 4_096] = [0xA5; 4_096];
 
 /// Room for the system's `pthread_attr_t`, which is smaller.
@@ -43,13 +44,15 @@ extern "C" {
     fn pthread_join(thread: usize, result: *mut *mut c_void) -> c_int;
 }
 
-/// What is lent to the questions, and the places that the check gave.
+/// What is lent to the questions, and the places that the check gave. Over the pair the stream is a session, and its template one of two sheets and three strings.
 struct Desk {
+    template: Vec<u8>,
     stream: Vec<u8>,
     tokens: Vec<u8>,
     units: Vec<u16>,
     words: Vec<u64>,
     table: Vec<u32>,
+    template_table: Vec<u32>,
     check: raw::Check,
     sheet: raw::Sheet,
 }
@@ -96,7 +99,7 @@ fn touched(stack: &mut [u8], question: Question, desk: &mut Desk) -> usize {
 }
 
 /// Each C function. They come in an order in which one has the places that it needs from those before it.
-const QUESTIONS: [(&str, Question); 18] = [
+const QUESTIONS: [(&str, Question); 25] = [
     ("station_version", |_| {
         // SAFETY: it takes nothing.
         black_box(unsafe { raw::station_version() });
@@ -179,6 +182,52 @@ const QUESTIONS: [(&str, Question); 18] = [
         let (bytes, length) = (stream.as_mut_ptr(), stream.len());
         black_box(unsafe { raw::station_correct(bytes, length, 0, 0, 1, 0, 2.5, 0, 0) });
     }),
+    ("station_pair_check", |desk| {
+        let (template, length, session, own) = pair(desk);
+        black_box(unsafe { raw::station_pair_check(template, length, session, own) });
+    }),
+    ("station_pair_sheet", |desk| {
+        let (template, length, session, own) = pair(desk);
+        black_box(unsafe { raw::station_pair_sheet(template, length, session, own, 0) });
+    }),
+    ("station_pair_cells", |desk| {
+        let (template, length, session, own) = pair(desk);
+        black_box(unsafe { raw::station_pair_cells(template, length, session, own, 1) });
+    }),
+    ("station_pair_fetch", |desk| {
+        let (template, length, session, own) = pair(desk);
+        let (buffer, room) = (desk.units.as_mut_ptr(), desk.units.len());
+        black_box(unsafe {
+            raw::station_pair_fetch(template, length, session, own, 2, 0, buffer, room)
+        });
+    }),
+    ("station_pair_text", |desk| {
+        let (template, length, session, own) = pair(desk);
+        let (buffer, room) = (desk.units.as_mut_ptr(), desk.units.len());
+        black_box(unsafe {
+            raw::station_pair_text(template, length, session, own, 0, 3, 1, buffer, room)
+        });
+    }),
+    ("station_pair_correct", |desk| {
+        let Desk {
+            template, stream, ..
+        } = desk;
+        let (template, length) = (template.as_ptr(), template.len());
+        let (session, own) = (stream.as_mut_ptr(), stream.len());
+        black_box(unsafe {
+            raw::station_pair_correct(template, length, session, own, 0, 0, 1, 0, 3.5, 0, 0)
+        });
+    }),
+    ("station_pair_fill", |desk| {
+        let (template, length, session, own) = pair(desk);
+        let (first, count) = (desk.template_table.as_mut_ptr(), desk.template_table.len());
+        let (second, own_count) = (desk.table.as_mut_ptr(), desk.table.len());
+        black_box(unsafe {
+            raw::station_pair_fill(
+                template, length, session, own, first, count, second, own_count,
+            )
+        });
+    }),
     ("station_profile", |desk| {
         let Desk { stream, .. } = desk;
         black_box(unsafe { raw::station_profile(stream.as_ptr(), stream.len()) });
@@ -198,6 +247,19 @@ const QUESTIONS: [(&str, Question); 18] = [
         black_box(unsafe { raw::station_next_pair(bytes, length, 0, 0, 0, at, part, level, 2) });
     }),
 ];
+
+/// The template and the session, as slices for C.
+fn pair(desk: &Desk) -> (*const u8, usize, *const u8, usize) {
+    let Desk {
+        template, stream, ..
+    } = desk;
+    (
+        template.as_ptr(),
+        template.len(),
+        stream.as_ptr(),
+        stream.len(),
+    )
+}
 
 /// The stored cases, sheets in order and in reverse among them, and made streams of each sort: of a million bytes, and of the greatest length the one
 /// with the most sheets, all in reverse.
@@ -242,12 +304,14 @@ fn desk(stream: Vec<u8>) -> Desk {
         )
     };
     Desk {
+        template: TEMPLATE.to_vec(),
         stream,
         tokens: deepest_formula(),
         units: vec![0; station::LONGEST_STRING],
         words: vec![0; 512],
         // For the strings of the streams of a million bytes.
         table: vec![0; 700_000],
+        template_table: vec![0; 8],
         check,
         sheet,
     }
@@ -283,12 +347,13 @@ fn no_question_needs_more_than_the_header_says() {
 }
 
 /// What is lent to the questions holds afterwards, once each has been asked.
-fn lent_after(stream: Vec<u8>) -> (Vec<u8>, Vec<u16>, Vec<u64>, Vec<u32>) {
+fn lent_after(stream: Vec<u8>) -> (Vec<u8>, Vec<u16>, Vec<u64>, [Vec<u32>; 2]) {
     let mut desk = desk(stream);
     for (_, question) in QUESTIONS {
         question(&mut desk);
     }
-    (desk.stream, desk.units, desk.words, desk.table)
+    let tables = [desk.template_table, desk.table];
+    (desk.stream, desk.units, desk.words, tables)
 }
 
 /// An embedder's small thread, for sheets in order and out of order.

@@ -1,5 +1,6 @@
 //! Many threads ask at the same time, about one stream and about copies of it: each gets what it would get alone.
 
+use station::pair::{self, Whose};
 use station::{cells, check, correct, fetch, judge, pairs, text, Cell, NewValue, Pair, Refusal};
 use std::sync::Barrier;
 use std::thread;
@@ -7,6 +8,8 @@ use std::thread;
 const STREAM: &[u8] = include_bytes!("../../../cases/cells.in");
 const RESULTS: &[u8] = include_bytes!("../../../cases/results.in");
 const RIDE: &[u8] = include_bytes!("../../../cases/ride.in");
+const TEMPLATE: &[u8] = include_bytes!("../../../cases/template.in");
+const DAY: &[u8] = include_bytes!("../../../cases/day.in");
 const THREADS: usize = 8;
 const TURNS: usize = 200;
 
@@ -42,6 +45,39 @@ fn each_gets_its_own_answers() {
                 start.wait();
                 for _ in 0..TURNS {
                     assert_eq!(answers(STREAM), alone);
+                }
+            });
+        }
+    });
+}
+
+/// What an owner's calls over the template come to, and what its session and buffer hold after them.
+fn calls(session: &[u8], turn: usize) -> impl PartialEq + std::fmt::Debug {
+    let mut session = session.to_vec();
+    let mut buffer = [0; 16];
+    let first = pair::fetch(TEMPLATE, &session, Whose::Session, 1, &mut buffer);
+    let value = NewValue::Number(turn as f64);
+    let granted = pair::correct(TEMPLATE, &mut session, 0, 1, 1, value);
+    let aimed = pair::correct(TEMPLATE, &mut session, 1, 0, 0, NewValue::Text(0));
+    let text = pair::text(TEMPLATE, &session, 1, 1, 0, &mut buffer);
+    (first, granted, aimed, text, buffer, session)
+}
+
+/// Two sessions of one template, each with its owner: however their calls fall together, each gets what its calls alone give.
+#[test]
+fn owners_of_one_template() {
+    let alone: Vec<_> = (0..TURNS)
+        .map(|turn| [DAY, STREAM].map(|session| calls(session, turn)))
+        .collect();
+    let start = Barrier::new(THREADS);
+    thread::scope(|scope| {
+        for owner in 0..THREADS {
+            let (alone, start) = (&alone, &start);
+            scope.spawn(move || {
+                start.wait();
+                for (turn, alone) in alone.iter().enumerate() {
+                    let session = [DAY, STREAM][owner % 2];
+                    assert_eq!(calls(session, turn), alone[owner % 2]);
                 }
             });
         }

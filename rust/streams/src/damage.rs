@@ -314,13 +314,18 @@ fn change_index(rng: &mut Rng, book: &mut Book) {
         .map_or(0, |field| {
             u32::from_le_bytes([field[0], field[1], field[2], field[3]])
         });
-    let place = place_of(rng, book, |record| record.kind == kind::LABELSST);
-    let index = match rng.below(4) {
+    put_index(rng, book, |rng| match rng.below(4) {
         0 => unique.wrapping_sub(1),
         1 => rng.pick(&LONGS),
         2 => unique.wrapping_add(1),
         _ => unique,
-    };
+    });
+}
+
+/// Gives a text cell another index; one is put in where there is none.
+pub(crate) fn put_index(rng: &mut Rng, book: &mut Book, index: impl FnOnce(&mut Rng) -> u32) {
+    let place = place_of(rng, book, |record| record.kind == kind::LABELSST);
+    let index = index(rng);
     match place.and_then(|place| book.records[place].body.get_mut(6..10)) {
         Some(field) => field.copy_from_slice(&index.to_le_bytes()),
         None => insert_text_cell(rng, book, index),

@@ -13,6 +13,7 @@ mod contents;
 mod damage;
 mod formula;
 mod jumps;
+mod pairs;
 mod places;
 mod questions;
 mod record;
@@ -26,6 +27,7 @@ mod workbook;
 pub use big::Big;
 pub use contents::{CellContents, Content, Contents, FormulaContents, SheetContents};
 pub use formula::Formula;
+pub use pairs::{Pair, PairFetch};
 pub use places::Through;
 pub use questions::{Correction, Fetch, NewValue, Text};
 
@@ -123,6 +125,42 @@ pub fn numbers(seed: u64, stream: &[u8]) -> usize {
 /// comes with it, of the table as it was filled or made up from it.
 pub fn through(seed: u64, stream: &[u8], filled: &[u32]) -> Through {
     places::through(&mut Rng::for_purpose(seed, 15), stream, filled)
+}
+
+/// A template and a session of any sort.
+pub fn pair(seed: u64) -> Pair {
+    pairs::any(&mut Rng::for_purpose(seed, 17))
+}
+
+/// A template and a session that break no rule.
+pub fn valid_pair(seed: u64) -> Pair {
+    pairs::valid(&mut Rng::for_purpose(seed, 18))
+}
+
+/// A sheet number to ask of a pair.
+pub fn pair_sheet(seed: u64, pair: &Pair) -> u32 {
+    pairs::sheet(&mut Rng::for_purpose(seed, 19), pair)
+}
+
+/// A fetch to ask of a pair.
+pub fn pair_fetch(seed: u64, pair: &Pair) -> PairFetch {
+    pairs::fetch(&mut Rng::for_purpose(seed, 20), pair)
+}
+
+/// A cell to ask the text of.
+pub fn pair_text(seed: u64, pair: &Pair) -> Text {
+    pairs::text(&mut Rng::for_purpose(seed, 21), pair)
+}
+
+/// A correction to ask of a pair, at times aimed at the template.
+pub fn pair_correction(seed: u64, pair: &Pair) -> Correction {
+    pairs::correction(&mut Rng::for_purpose(seed, 22), pair)
+}
+
+/// How many numbers the tables have that are to be filled: the template's, the
+/// session's.
+pub fn pair_numbers(seed: u64, pair: &Pair) -> [usize; 2] {
+    pairs::numbers(&mut Rng::for_purpose(seed, 24), pair)
 }
 
 /// A sheet number to ask a stream's cells of.

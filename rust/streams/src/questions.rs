@@ -69,21 +69,26 @@ impl Found {
 }
 
 pub(crate) fn correction(rng: &mut Rng, stream: &[u8]) -> Correction {
+    correction_with(rng, stream, unique_strings(stream))
+}
+
+/// A correction of a stream whose text indices mean one of so many strings.
+pub(crate) fn correction_with(rng: &mut Rng, stream: &[u8], unique: u32) -> Correction {
     let (sheet, cells) = sheet_with_cells(rng, stream);
     if cells.is_empty() || rng.percent(4) {
         return Correction {
             sheet,
             row: rng.pick(&[0, 1, 2, 65_535, 65_536, 65_537, u32::MAX]),
             column: rng.pick(&[0, 1, 2, 255, 256, 65_536, u32::MAX]),
-            value: any_value(rng, stream),
+            value: any_value(rng, unique),
         };
     }
     let cell = pick_cell(rng, &cells);
     let (row, column) = beside(rng, u32::from(cell.row), u32::from(cell.column));
     let value = if rng.percent(85) {
-        matching_value(rng, stream, cell.kind)
+        matching_value(rng, unique, cell.kind)
     } else {
-        any_value(rng, stream)
+        any_value(rng, unique)
     };
     Correction {
         sheet,
@@ -236,7 +241,7 @@ fn globals(stream: &[u8]) -> impl Iterator<Item = (u16, &[u8])> {
     records(stream, 0).take_while(|&(kind, _)| kind != kind::EOF)
 }
 
-fn sheet_positions(stream: &[u8]) -> Vec<u32> {
+pub(crate) fn sheet_positions(stream: &[u8]) -> Vec<u32> {
     globals(stream)
         .filter(|&(kind, _)| kind == kind::BOUNDSHEET)
         .map(|(_, body)| long_at(body, 0).unwrap_or(0))
@@ -244,10 +249,14 @@ fn sheet_positions(stream: &[u8]) -> Vec<u32> {
 }
 
 pub(crate) fn unique_strings(stream: &[u8]) -> u32 {
+    own_strings(stream).unwrap_or(0)
+}
+
+/// How many strings a stream's own table has; none where it has no table.
+pub(crate) fn own_strings(stream: &[u8]) -> Option<u32> {
     globals(stream)
         .find(|&(kind, _)| kind == kind::SST)
         .and_then(|(_, body)| long_at(body, 4))
-        .unwrap_or(0)
 }
 
 /// The cells from a BOF on to its EOF, nested charts left out.
@@ -286,20 +295,20 @@ fn append_cells(cells: &mut Vec<Found>, kind: u16, body: &[u8]) {
 }
 
 /// A value of the kind that a cell takes, in range or not.
-fn matching_value(rng: &mut Rng, stream: &[u8], kind: u16) -> NewValue {
+fn matching_value(rng: &mut Rng, unique: u32, kind: u16) -> NewValue {
     match kind {
         kind::NUMBER | kind::RK | kind::MULRK => NewValue::Number(number(rng)),
-        kind::LABELSST => NewValue::Text(index(rng, stream)),
+        kind::LABELSST => NewValue::Text(index(rng, unique)),
         kind::BOOLERR if rng.percent(50) => NewValue::Truth(truth(rng)),
         kind::BOOLERR => NewValue::Error(code(rng)),
-        _ => any_value(rng, stream),
+        _ => any_value(rng, unique),
     }
 }
 
-fn any_value(rng: &mut Rng, stream: &[u8]) -> NewValue {
+fn any_value(rng: &mut Rng, unique: u32) -> NewValue {
     match rng.below(4) {
         0 => NewValue::Number(number(rng)),
-        1 => NewValue::Text(index(rng, stream)),
+        1 => NewValue::Text(index(rng, unique)),
         2 => NewValue::Truth(truth(rng)),
         _ => NewValue::Error(code(rng)),
     }
@@ -317,8 +326,7 @@ fn code(rng: &mut Rng) -> u8 {
     }
 }
 
-fn index(rng: &mut Rng, stream: &[u8]) -> u32 {
-    let unique = unique_strings(stream);
+fn index(rng: &mut Rng, unique: u32) -> u32 {
     match rng.below(8) {
         0 => unique,
         1 => rng.pick(&[0, 0x1_0000, 0x7FFF_FFFF, u32::MAX]),

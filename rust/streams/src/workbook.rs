@@ -43,7 +43,8 @@ struct Plan {
     sheet_types: Vec<u8>,
     /// For each BOUNDSHEET the number of its sheet in stream order.
     order: Vec<usize>,
-    has_table: bool,
+    /// About how many bytes its string table has, where it has one.
+    table: Option<usize>,
 }
 
 impl Plan {
@@ -64,7 +65,7 @@ impl Plan {
             budget,
             sheet_types: (0..sheets).map(|_| rng.pick(&[0, 0, 0, 0, 1, 2])).collect(),
             order,
-            has_table: rng.percent(75),
+            table: rng.percent(75).then_some(budget / 2),
         }
     }
 }
@@ -72,13 +73,32 @@ impl Plan {
 /// A valid workbook. Its contents are filled in only where they are to be kept.
 pub(crate) fn valid(rng: &mut Rng, keep: bool) -> (Book, Contents) {
     let plan = Plan::pick(rng);
+    made(rng, &plan, 0, keep)
+}
+
+/// A valid session over a template that has so many strings: without a string
+/// table, with an empty one, or with its own, small or not.
+pub(crate) fn session(rng: &mut Rng, lent: u32) -> Book {
+    let mut plan = Plan::pick(rng);
+    plan.table = match rng.below(10) {
+        0..=4 => None,
+        5 => Some(0),
+        6..=7 => Some(rng.between(9, 60)),
+        _ => Some(plan.budget / 2),
+    };
+    made(rng, &plan, lent, false).0
+}
+
+/// A workbook by a plan. Where it has no string table its text indices are
+/// below the number that is lent.
+fn made(rng: &mut Rng, plan: &Plan, lent: u32, keep: bool) -> (Book, Contents) {
     let mut maker = Maker {
         book: Book::default(),
         contents: Contents::default(),
-        unique: 0,
+        unique: lent,
         keep,
     };
-    maker.globals(rng, &plan);
+    maker.globals(rng, plan);
     let share = plan.budget / 2 / plan.sheet_types.len().max(1);
     let mut cells = Vec::new();
     for (number, &sheet_type) in plan.sheet_types.iter().enumerate() {
@@ -102,7 +122,7 @@ pub(crate) fn around(rng: &mut Rng, sheet_types: &[u8], records: Vec<Record>) ->
         budget: BUDGET,
         sheet_types: sheet_types.to_vec(),
         order: (0..sheet_types.len()).collect(),
-        has_table: rng.percent(30),
+        table: rng.percent(30).then_some(BUDGET / 2),
     };
     let mut maker = Maker {
         book: Book::default(),
@@ -144,12 +164,12 @@ impl Maker {
     fn globals(&mut self, rng: &mut Rng, plan: &Plan) {
         self.book.push(Record::bof(rng, bof::GLOBALS, Tie::None));
         let table_after = rng.below(plan.order.len() + 1);
-        let table_budget = plan.budget / 2;
+        let others_budget = plan.budget / 2;
         for place in 0..=plan.order.len() {
-            self.maybe_others(rng, Context::Globals, table_budget);
-            if plan.has_table && place == table_after {
-                self.table(rng, table_budget);
-                self.maybe_others(rng, Context::Globals, table_budget);
+            self.maybe_others(rng, Context::Globals, others_budget);
+            if let Some(budget) = plan.table.filter(|_| place == table_after) {
+                self.table(rng, budget);
+                self.maybe_others(rng, Context::Globals, others_budget);
             }
             if let Some(&number) = plan.order.get(place) {
                 self.boundsheet(rng, number, plan.sheet_types[number]);

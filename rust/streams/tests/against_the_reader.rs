@@ -75,6 +75,19 @@ fn valid_streams_are_read_as_they_were_made() {
     }
 }
 
+/// Over the template, and at times not alone.
+#[test]
+fn valid_pairs_pass() {
+    let mut alone = 0;
+    for seed in 0..SEEDS / 4 {
+        let pair = streams::valid_pair(seed);
+        let checked = reader::pair_check(&pair.template, &pair.session);
+        assert!(checked.is_ok(), "seed {seed}: {checked:?}");
+        alone += usize::from(reader::check(&pair.session).is_ok());
+    }
+    assert!(alone < 4_900 && alone > 1_000, "{alone}");
+}
+
 #[test]
 fn valid_formulas_are_accepted() {
     for seed in 0..SEEDS {

@@ -3,13 +3,15 @@
 use crate::address::Address;
 use crate::arguments::{missing, too_many, Arguments, Operands, Setting};
 use crate::commands::Command;
-use crate::input::{Stream, STANDARD};
+use crate::input::STANDARD;
 use crate::outcome::{complain, Failure, Output, Status};
 use crate::replace::Place;
+use crate::source::{Checked, Source, TEMPLATE};
 use crate::text::{Name, Word};
 use crate::value;
 use crate::wanted::Wanted;
-use station::{NewValue, Refusal, Workbook};
+use station::pair::Refused;
+use station::NewValue;
 use std::ffi::OsStr;
 use std::io::{self, Write};
 use std::path::Path;
@@ -39,6 +41,7 @@ pub const CORRECT: Command = Command {
             "TEXT",
             "in the place of VALUE: the shared string with exactly these characters, the first where several have them; refused where none has",
         ),
+        TEMPLATE,
     ],
     examples: &[
         (
@@ -56,6 +59,10 @@ pub const CORRECT: Command = Command {
         (
             "vaigunthe correct session.bin 0 1 3 error '#N/A' --in-place",
             "row 1, column 3, both counted from 0",
+        ),
+        (
+            "vaigunthe correct day.bin 0 B2 number 72.5 --template template.bin --in-place",
+            "a session over its template",
         ),
     ],
     details: "\
@@ -78,6 +85,10 @@ KIND and VALUE are one of:
 A correction stays within the cell's record: a number goes where a number is, a
 text where a text is, a truth or an error where one of these is. Blanks and
 formulas take no value.
+
+With a template it is the session that is corrected, and a text is one of the
+table that its indices mean. A sheet that only the template has takes no
+correction: 17, whatever is asked for in it. The template is never written over.
 
 A file is replaced whole or not at all: a new one, .vaigunthe-..., is written
 beside it, synced and renamed. It has the old one's permissions; a link stays,
@@ -128,37 +139,40 @@ impl Question {
         Ok(Question { sheet, cell, value })
     }
 
-    fn ask(&self, stream: &mut Stream<'_>) -> Result<(), Refusal> {
-        let (sheet, value) = self.found(&stream.bytes)?;
+    fn ask(&self, source: &mut Source<'_>) -> Result<(), Refused> {
+        let (sheet, value) = self.found(source)?;
         let Address { row, column } = self.cell;
-        station::correct(&mut stream.bytes, sheet, row, column, value)
+        source.correct((sheet, row, column), value)
     }
 
     /// The number of the sheet and the value, looked up where they are given by name and characters.
-    fn found(&self, stream: &[u8]) -> Result<(u32, NewValue), Refusal> {
+    fn found(&self, source: &Source<'_>) -> Result<(u32, NewValue), Refused> {
         if let (Wanted::Number(sheet), New::Value(value)) = (&self.sheet, &self.value) {
             return Ok((*sheet, *value));
         }
-        let workbook = station::check(stream)?;
+        let checked = source.check()?;
         let value = match &self.value {
             New::Value(value) => *value,
-            New::Text(text) => NewValue::Text(index_of(text, &workbook).unwrap_or(ABSENT)),
+            New::Text(text) => NewValue::Text(index_of(text, &checked).unwrap_or(ABSENT)),
         };
-        Ok((self.sheet.number(&workbook), value))
+        Ok((self.sheet.number(&checked), value))
     }
 
     /// What a refusal can't say: which of the things that were asked for is absent.
-    fn explain(&self, stream: &Stream<'_>) {
-        let Ok(workbook) = station::check(&stream.bytes) else {
+    fn explain(&self, source: &Source<'_>) {
+        let Ok(checked) = source.check() else {
             return;
         };
-        if let Some(note) = self.sheet.note(&workbook) {
-            stream.note(note);
+        if let Some(note) = self.sheet.note(&checked) {
+            source.note(note);
+        }
+        if checked.is_templates(self.sheet.number(&checked)) {
+            source.note("that sheet is the template's: only the session is corrected");
         }
         if let New::Text(text) = &self.value {
-            if index_of(text, &workbook).is_none() {
+            if index_of(text, &checked).is_none() {
                 let text = Word(text.as_ref());
-                stream.note(format_args!(
+                source.note(format_args!(
                     "no shared string is '{text}', and a correction can't add one"
                 ));
             }
@@ -172,11 +186,11 @@ fn characters(text: &OsStr) -> Result<String, Failure> {
     plain.ok_or_else(|| Failure::usage(format!("--text takes UTF-8, not '{}'", Word(text))))
 }
 
-/// The lowest index of a shared string with exactly these characters.
-fn index_of(text: &str, workbook: &Workbook<'_>) -> Option<u32> {
+/// The lowest index of a shared string with exactly these characters, in the table that the indices mean.
+fn index_of(text: &str, checked: &Checked<'_>) -> Option<u32> {
     let wanted: Vec<u16> = text.encode_utf16().collect();
-    let mut strings = workbook.strings();
-    (0..workbook.strings).find(|_| strings.next_units() == Some(&wanted))
+    let mut strings = checked.strings(checked.table());
+    (0..checked.string_count(checked.table())).find(|_| strings.next_units() == Some(&wanted))
 }
 
 /// Where the corrected stream goes.
@@ -200,28 +214,28 @@ impl<'a> Target<'a> {
 }
 
 fn run(arguments: &Arguments, out: &mut Output) -> Result<Status, Failure> {
-    let file = arguments.operand(0);
     let question = Question::of(arguments)?;
     match Target::of(arguments)? {
-        Target::File(name) => to_file(file, &question, name, out),
-        Target::Output => to_output(file, &question, out),
+        Target::File(name) => to_file(arguments, &question, name, out),
+        Target::Output => to_output(arguments, &question, out),
     }
 }
 
 /// The place is held before the file is read: where both are one, no other run may replace it in between.
 fn to_file(
-    file: &OsStr,
+    arguments: &Arguments,
     question: &Question,
     name: &OsStr,
     out: &mut Output,
 ) -> Result<Status, Failure> {
     let place = Place::of(Path::new(name)).map_err(|error| Failure::of_file(name, &error))?;
-    let mut stream = Stream::read(file)?;
-    if let Err(refusal) = question.ask(&mut stream) {
-        return refuse(&stream, question, refusal, out);
+    let mut source = Source::read(arguments)?;
+    source.spare_template(&place)?;
+    if let Err(refused) = question.ask(&mut source) {
+        return refuse(&source, question, refused, out);
     }
     place
-        .put(true, |out| out.write_all(&stream.bytes))
+        .put(true, |out| out.write_all(&source.session().bytes))
         .map_err(|error| Failure::of_file(name, &error))?;
     // The file is replaced by now, so this can no longer be a failure.
     if let Err(error) = place.sync_folder() {
@@ -235,26 +249,30 @@ fn to_file(
 }
 
 fn refuse(
-    stream: &Stream<'_>,
+    source: &Source<'_>,
     question: &Question,
-    refusal: Refusal,
+    refused: Refused,
     out: &mut impl Write,
 ) -> Result<Status, Failure> {
-    let status = stream.refuse(refusal, out)?;
-    question.explain(stream);
+    let status = source.refuse(refused, out)?;
+    question.explain(source);
     Ok(status)
 }
 
 /// Standard output has the stream and nothing else, so the answer goes to standard error.
-fn to_output(file: &OsStr, question: &Question, out: &mut Output) -> Result<Status, Failure> {
-    let mut stream = Stream::read(file)?;
-    match question.ask(&mut stream) {
+fn to_output(
+    arguments: &Arguments,
+    question: &Question,
+    out: &mut Output,
+) -> Result<Status, Failure> {
+    let mut source = Source::read(arguments)?;
+    match question.ask(&mut source) {
         Ok(()) => {
-            out.write_all(&stream.bytes)?;
+            out.write_all(&source.session().bytes)?;
             out.flush()?;
             let _ = writeln!(io::stderr(), "granted");
             Ok(Status::Answered)
         }
-        Err(refusal) => refuse(&stream, question, refusal, &mut io::stderr()),
+        Err(refused) => refuse(&source, question, refused, &mut io::stderr()),
     }
 }

@@ -8,12 +8,12 @@ mod json;
 use crate::arguments::{Arguments, Operands, Setting};
 use crate::book::Book;
 use crate::commands::Command;
-use crate::input::Stream;
 use crate::outcome::{Failure, Output, Status};
 use crate::replace::{Place, Written};
+use crate::source::{Source, TEMPLATE};
 use crate::target::Target;
 use crate::wanted::Wanted;
-use station::Refusal;
+use station::pair::Refused;
 use std::io::{self, Write};
 use std::path::Path;
 
@@ -75,6 +75,7 @@ pub const EXPORT: Command = Command {
             "--bom",
             "with --csv and --grid: start with a byte order mark, by which Excel knows UTF-8",
         ),
+        TEMPLATE,
     ],
     examples: &[
         (
@@ -104,6 +105,10 @@ pub const EXPORT: Command = Command {
         (
             "vaigunthe export session.bin --csv --a1 --places",
             "where in the stream each value stands",
+        ),
+        (
+            "vaigunthe export day.bin --csv --a1 --template template.bin",
+            "the cells of a session and of its template, with the texts that they mean",
         ),
     ],
     details: "\
@@ -136,6 +141,11 @@ Excel's days 0 and 60. A workbook without a DATEMODE record counts its days from
 
 Dates are no part of what is proved. The proved library gives each cell's number
 and the index of its format; what date that is, this tool alone says.
+
+With a template each text is that of the table that its index means, dates go by
+the formats of the stream that has the cell, and --csv and --json say which that
+is, session or template, as stream: a last column in CSV, of each sheet in JSON.
+The offsets of --places are counted in it.
 
 In names of files all but letters, digits, spaces and -_. becomes _; the number
 in front keeps them apart. FILE itself is never written over.
@@ -201,10 +211,8 @@ impl Form {
             Form::Csv(listing) => csv::write(book, *listing, out),
             Form::Json(listing) => json::write(book, *listing, out),
             Form::Grid => {
-                let sheets = book.sheets().map(|(_, sheet)| sheet);
-                sheets
-                    .take(1)
-                    .try_for_each(|sheet| grid::Grid::of(book, &sheet).write(out))
+                let mut sheets = book.sheets().take(1);
+                sheets.try_for_each(|page| grid::Grid::of(book, &page).write(out))
             }
         }
     }
@@ -229,14 +237,14 @@ fn run(arguments: &Arguments, out: &mut Output) -> Result<Status, Failure> {
     let mark = if arguments.has("--bom") { MARK } else { "" };
     let only = arguments.option("--sheet");
     let only = only.map(|word| Wanted::read("--sheet", word)).transpose()?;
-    let stream = Stream::read(arguments.operand(0))?;
-    let mut book = match Book::read(&stream.bytes, only.as_ref()) {
+    let source = Source::read(arguments)?;
+    let mut book = match Book::read(&source, only.as_ref()) {
         Ok(book) => book,
-        Err(refusal) => return Ok(refuse(&stream, refusal, only.as_ref())),
+        Err(refused) => return Ok(refuse(&source, refused, only.as_ref())),
     };
     if let (Form::Grid, Target::Output | Target::File(_)) = (&form, &target) {
         let one = book.one_worksheet();
-        one.map_err(|message| stream.failure(message))?;
+        one.map_err(|message| source.session().failure(message))?;
     }
     if arguments.has("--dates") {
         book.show_dates();
@@ -249,36 +257,37 @@ fn run(arguments: &Arguments, out: &mut Output) -> Result<Status, Failure> {
         Target::File(name) => {
             let path = Path::new(name);
             let write = |out: &mut Written<'_>| form.write(&book, out);
-            put(&stream, path, Place::of(path), mark, write)?;
+            put(&source, path, Place::of(path), mark, write)?;
         }
-        Target::Folder(name) => folder::write(&book, &stream, mark, name)?,
+        Target::Folder(name) => folder::write(&book, &source, mark, name)?,
     }
-    if let Some(note) = book.about_dates() {
-        stream.note(note);
+    for whose in book.streams() {
+        if let Some(note) = book.about_dates(*whose) {
+            source.stream(*whose).note(note);
+        }
     }
     Ok(Status::Answered)
 }
 
 /// Says what a refusal means, and of a sheet that is absent what there is instead.
-fn refuse(stream: &Stream<'_>, refusal: Refusal, only: Option<&Wanted>) -> Status {
-    let status = stream.explain(refusal);
-    let workbook = station::check(&stream.bytes).ok();
-    let asked = workbook.zip(only);
-    if let Some(note) = asked.and_then(|(workbook, only)| only.note(&workbook)) {
-        stream.note(note);
+fn refuse(source: &Source<'_>, refused: Refused, only: Option<&Wanted>) -> Status {
+    let status = source.explain(refused);
+    let asked = source.check().ok().zip(only);
+    if let Some(note) = asked.and_then(|(checked, only)| only.note(&checked)) {
+        source.note(note);
     }
     status
 }
 
 /// Puts what is written into a file, behind the mark.
 fn put(
-    stream: &Stream<'_>,
+    source: &Source<'_>,
     path: &Path,
     place: io::Result<Place>,
     mark: &str,
     write: impl FnOnce(&mut Written<'_>) -> io::Result<()>,
 ) -> Result<(), Failure> {
-    stream.put_beside(path, place, |out| {
+    source.put_beside(path, place, |out| {
         out.write_all(mark.as_bytes())?;
         write(out)
     })

@@ -20,11 +20,11 @@ pub fn several(arguments: &Arguments) -> Result<&[OsString], Failure> {
     }
 }
 
-/// Says a line of each file, in the order given. One that can't be read keeps none of the others from its answer.
+/// Says a line of each file, in the order given, which `say` makes of its bytes. One that can't be read keeps none of the others from its answer.
 pub fn say_each(
     arguments: &Arguments,
     out: &mut Output,
-    say: fn(&[u8]) -> Said,
+    say: impl Fn(&[u8]) -> Said,
 ) -> Result<Status, Failure> {
     let files = several(arguments)?;
     let mut progress = Progress::on_standard_error("checking", files.len());

@@ -4,7 +4,7 @@ use crate::hint;
 use crate::outcome::{complain, Failure, Status};
 use crate::replace::{Place, Written};
 use crate::text::Name;
-use station::Refusal;
+use station::pair::Refused;
 use std::ffi::OsStr;
 use std::fmt::Display;
 use std::fs::File;
@@ -46,15 +46,15 @@ impl<'n> Stream<'n> {
     }
 
     /// Gives a refusal as the answer: its bare line for machines, and what it means for people.
-    pub fn refuse(&self, refusal: Refusal, out: &mut impl Write) -> Result<Status, Failure> {
-        writeln!(out, "{}", refusal.line())?;
+    pub fn refuse(&self, refused: Refused, out: &mut impl Write) -> Result<Status, Failure> {
+        writeln!(out, "{}", refused.line())?;
         out.flush()?;
-        Ok(self.explain(refusal))
+        Ok(self.explain(refused))
     }
 
     /// Says what a refusal means, on standard error alone: where data is asked for, standard output has nothing else.
-    pub fn explain(&self, refusal: Refusal) -> Status {
-        self.note(refusal);
+    pub fn explain(&self, refused: Refused) -> Status {
+        self.note(refused);
         self.hint();
         Status::Refused
     }
@@ -79,10 +79,15 @@ impl<'n> Stream<'n> {
     ) -> Result<(), Failure> {
         let failed = |error: io::Error| Failure::of_file(path.as_os_str(), &error);
         let place = place.map_err(failed)?;
-        if self.path().is_some_and(|read| place.replaces(read)) {
+        if self.is_replaced_at(&place) {
             return Err(self.failure("this is what is read: it is not written over"));
         }
         place.put(false, write).map_err(failed)
+    }
+
+    /// Whether it was read from the file that would be replaced there.
+    pub fn is_replaced_at(&self, place: &Place) -> bool {
+        self.path().is_some_and(|read| place.replaces(read))
     }
 
     /// Why it can't be done with this stream.

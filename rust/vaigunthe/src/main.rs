@@ -33,6 +33,7 @@ mod replace;
 mod report;
 mod sha256;
 mod signals;
+mod source;
 mod target;
 mod text;
 mod threads;

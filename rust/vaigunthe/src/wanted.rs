@@ -3,8 +3,8 @@
 use crate::arguments::whole;
 use crate::nearest::nearest;
 use crate::outcome::Failure;
+use crate::source::Checked;
 use crate::text::Word;
-use station::Workbook;
 use std::ffi::OsStr;
 
 /// Stands before a name that could be taken for a number.
@@ -37,20 +37,20 @@ impl Wanted {
     }
 
     /// The number of the sheet: the first of that name, or one that no sheet has.
-    pub fn number(&self, workbook: &Workbook<'_>) -> u32 {
+    pub fn number(&self, checked: &Checked<'_>) -> u32 {
         match self {
             Wanted::Number(number) => *number,
-            Wanted::Name(name) => place_of(name, workbook).unwrap_or(ABSENT),
+            Wanted::Name(name) => place_of(name, checked).unwrap_or(ABSENT),
         }
     }
 
     /// What there is to say where there is no such sheet.
-    pub fn note(&self, workbook: &Workbook<'_>) -> Option<String> {
-        let sheets = workbook.sheets;
+    pub fn note(&self, checked: &Checked<'_>) -> Option<String> {
+        let sheets = checked.sheet_count();
         match self {
             Wanted::Number(number) if (*number as usize) < sheets => None,
             Wanted::Number(number) => {
-                let named = match place_of(&number.to_string(), workbook) {
+                let named = match place_of(&number.to_string(), checked) {
                     Some(place) => {
                         format!("; the name {number} is that of sheet {place}: {PREFIX}{number}")
                     }
@@ -58,9 +58,9 @@ impl Wanted {
                 };
                 Some(format!("there are {sheets} sheets, counted from 0{named}"))
             }
-            Wanted::Name(name) if place_of(name, workbook).is_some() => None,
+            Wanted::Name(name) if place_of(name, checked).is_some() => None,
             Wanted::Name(name) => {
-                let names: Vec<_> = names(workbook)
+                let names: Vec<_> = names(checked)
                     .map(|name| String::from_utf16_lossy(&name))
                     .collect();
                 let meant = match nearest(name.as_ref(), names.iter().map(String::as_str)) {
@@ -74,13 +74,15 @@ impl Wanted {
     }
 }
 
-fn names<'w>(workbook: &'w Workbook<'_>) -> impl Iterator<Item = Vec<u16>> + 'w {
-    workbook.sheets().map(|sheet| sheet.name_units().collect())
+fn names<'w>(checked: &Checked<'w>) -> impl Iterator<Item = Vec<u16>> + 'w {
+    checked
+        .sheets()
+        .map(|(_, sheet)| sheet.name_units().collect())
 }
 
 /// The first sheet with exactly this name.
-fn place_of(name: &str, workbook: &Workbook<'_>) -> Option<u32> {
+fn place_of(name: &str, checked: &Checked<'_>) -> Option<u32> {
     let units: Vec<u16> = name.encode_utf16().collect();
-    let place = names(workbook).position(|name| name == units)?;
+    let place = names(checked).position(|name| name == units)?;
     u32::try_from(place).ok()
 }

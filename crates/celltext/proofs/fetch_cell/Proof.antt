@@ -1,4 +1,4 @@
-use Rattle.celltext.proofs.Laws.{fetch-laws}
+use Rattle.celltext.proofs.Laws.{answer-laws, buffer-laws}
 use borrow.Author.Needs.{needs}
 use Rattle.celltext.proofs.fetch_cell.Statement.{statement}
 use Rattle.celltext.proofs.fetch_cell.Tie as tie
@@ -7,17 +7,25 @@ pub fetch-cell-spec : {M : Type 1} → statement M
 fetch-cell-spec =
     tie.close
     (tie.spec
-    -- spot-of-requires
+    -- check-with-requires
     (λ c κs. search needs)
     -- enum-known-number
     (λ c. search needs)
-    -- enum-known-at
+    -- enum-told
     (λ c. search needs)
-    -- fetch-text-requires
-    (λ c κs. search (fetch-laws, needs))
+    -- find-sheet-requires
+    (λ c κs. search needs)
+    -- enum-told-2
+    (λ c. search needs)
+    -- enum-known-position
+    (λ c. search needs)
+    -- fetch-in-requires
+    (λ c κs. search needs)
     -- returns
-    (λ c. (search (fetch-laws, needs), search (fetch-laws, needs)))
+    (λ c. (search (answer-laws, needs), search (buffer-laws, needs)))
+    -- returns-2
+    (λ c. (search (answer-laws, needs), search (buffer-laws, needs)))
     -- same-length
     (λ c. search needs)
-    -- returns-2
-    (λ c. (search (fetch-laws, needs), search (fetch-laws, needs))))
+    -- returns-3
+    (λ c. (search (answer-laws, needs), search (buffer-laws, needs))))

@@ -3,6 +3,7 @@
 
 mod functions;
 mod jumps;
+mod pairs;
 mod places;
 mod sessions;
 mod text_results;

@@ -14,17 +14,19 @@ pub fn write<W: Write>(book: &Book<'_>, listing: Listing, out: &mut W) -> io::Re
     };
     let serial = if book.shows_dates() { ",serial" } else { "" };
     let places = if listing.places { ",format,offset" } else { "" };
+    let stream = if book.is_pair() { ",stream" } else { "" };
     write!(
         out,
-        "sheet,sheet_name,{address},kind,value{serial}{places}\r\n"
+        "sheet,sheet_name,{address},kind,value{serial}{places}{stream}\r\n"
     )?;
-    for (number, sheet) in book.sheets() {
+    for page in book.sheets() {
+        let (number, whose, sheet) = (page.number, page.whose, page.sheet);
         let name = field(&sheet.name_units().collect::<Vec<_>>());
         for cell in sheet.cells() {
             if cell.is_blank() && !listing.blanks {
                 continue;
             }
-            let (kind, shown) = book.shown(&cell);
+            let (kind, shown) = book.shown(whose, &cell);
             match listing.letters {
                 true => write!(out, "{number},{name},{},{kind},", Address::of(&cell))?,
                 false => write!(
@@ -42,6 +44,9 @@ pub fn write<W: Write>(book: &Book<'_>, listing: Listing, out: &mut W) -> io::Re
             }
             if listing.places {
                 write!(out, ",{},{}", cell.format(), cell.field())?;
+            }
+            if book.is_pair() {
+                write!(out, ",{whose}")?;
             }
             out.write_all(b"\r\n")?;
         }

@@ -2,13 +2,15 @@
 
 use super::csv::write_shown;
 use crate::bits::Bits;
-use crate::book::{Book, Shown};
+use crate::book::{Book, BookSheet, Shown};
+use station::pair::Whose;
 use station::{Cell, Sheet};
 use std::io::{self, Write};
 
 /// The cells of a sheet by row and column, one for an address. There are as many as the sheet has, however far apart they lie.
 pub struct Grid<'b, 'a> {
     book: &'b Book<'a>,
+    whose: Whose,
     cells: Vec<Cell>,
     rows: usize,
     columns: usize,
@@ -34,11 +36,11 @@ pub fn most_fields(sheet: &Sheet<'_>) -> usize {
 
 impl<'b, 'a> Grid<'b, 'a> {
     /// Of several cells at one address the last listed stays.
-    pub fn of(book: &'b Book<'a>, sheet: &Sheet<'_>) -> Self {
+    pub fn of(book: &'b Book<'a>, page: &BookSheet<'_>) -> Self {
         let mut cells = Vec::new();
         // By these addresses a blank is kept only where it covers a value: a stream has room for millions that don't.
         let mut values = Bits::none(65_536 * 256);
-        sheet.cells().for_each(|cell| {
+        page.sheet.cells().for_each(|cell| {
             let covers = values.put(address(&cell), !cell.is_blank());
             if covers || !cell.is_blank() {
                 cells.push(cell);
@@ -62,6 +64,7 @@ impl<'b, 'a> Grid<'b, 'a> {
             .max();
         Grid {
             book,
+            whose: page.whose,
             cells,
             rows,
             columns: columns.unwrap_or(0),
@@ -86,7 +89,7 @@ impl<'b, 'a> Grid<'b, 'a> {
             let next = usize::from(cell.column());
             out.write_all(&COMMAS[..next - column])?;
             column = next;
-            let (_, shown) = self.book.shown(cell);
+            let (_, shown) = self.book.shown(self.whose, cell);
             self.write_field(&shown, out)?;
         }
         if cells.is_empty() {

@@ -2,18 +2,19 @@
 
 use super::Listing;
 use crate::address::Address;
-use crate::book::{Book, Number, Shown};
+use crate::book::{Book, BookSheet, Number, Shown};
 use crate::lines::type_name;
 use crate::text::InJson;
-use station::{Cell, Sheet};
+use station::pair::Whose;
+use station::Cell;
 use std::io::{self, Write};
 
 pub fn write<W: Write>(book: &Book<'_>, listing: Listing, out: &mut W) -> io::Result<()> {
     write!(out, "{{\"sheets\":[")?;
     let mut separator = "\n";
-    for (number, sheet) in book.sheets() {
+    for page in book.sheets() {
         write!(out, "{separator}")?;
-        write_sheet(book, listing, (number, &sheet), out)?;
+        write_sheet(book, listing, &page, out)?;
         separator = ",\n";
     }
     writeln!(out, "\n]}}")
@@ -22,23 +23,31 @@ pub fn write<W: Write>(book: &Book<'_>, listing: Listing, out: &mut W) -> io::Re
 fn write_sheet<W: Write>(
     book: &Book<'_>,
     listing: Listing,
-    (number, sheet): (usize, &Sheet<'_>),
+    BookSheet {
+        number,
+        whose,
+        sheet,
+    }: &BookSheet<'_>,
     out: &mut W,
 ) -> io::Result<()> {
     write!(
         out,
-        "{{\"number\":{number},\"name\":{},\"type\":\"{}\",\"rows\":{},\"cells\":[",
+        "{{\"number\":{number},\"name\":{},\"type\":\"{}\",\"rows\":{}",
         InJson(&sheet.name_units().collect::<Vec<_>>()),
         type_name(sheet.kind),
         sheet.rows()
     )?;
+    if book.is_pair() {
+        write!(out, ",\"stream\":\"{whose}\"")?;
+    }
+    write!(out, ",\"cells\":[")?;
     let mut separator = "\n";
     for cell in sheet.cells() {
         if cell.is_blank() && !listing.blanks {
             continue;
         }
         write!(out, "{separator}")?;
-        write_cell(book, listing, &cell, out)?;
+        write_cell(book, listing, (*whose, &cell), out)?;
         separator = ",\n";
     }
     write!(out, "\n]}}")
@@ -47,10 +56,10 @@ fn write_sheet<W: Write>(
 fn write_cell<W: Write>(
     book: &Book<'_>,
     listing: Listing,
-    cell: &Cell,
+    (whose, cell): (Whose, &Cell),
     out: &mut W,
 ) -> io::Result<()> {
-    let (kind, shown) = book.shown(cell);
+    let (kind, shown) = book.shown(whose, cell);
     match listing.letters {
         true => write!(out, "{{\"cell\":\"{}\"", Address::of(cell))?,
         false => {
@@ -67,7 +76,7 @@ fn write_cell<W: Write>(
         let (format, offset) = (cell.format(), cell.field());
         write!(out, ",\"format\":{format},\"offset\":{offset}")?;
     }
-    if let Some(tokens) = book.tokens(cell) {
+    if let Some(tokens) = book.tokens(whose, cell) {
         write!(out, ",\"tokens\":\"")?;
         for byte in tokens {
             write!(out, "{byte:02X}")?;

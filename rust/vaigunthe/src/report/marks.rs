@@ -158,6 +158,7 @@ mod tests {
     use super::*;
     use crate::book::Book;
     use crate::report::grid::Grid;
+    use crate::source::Checked;
 
     const CELLS: &[u8] = include_bytes!("../../../../cases/cells.in");
     const RIDE: &[u8] = include_bytes!("../../../../cases/ride.in");
@@ -174,10 +175,11 @@ mod tests {
     }
 
     fn grid(stream: &[u8], marks: &Marks, limits: &Limits) -> String {
-        let book = Book::read(stream, None).expect("a workbook");
-        let (number, sheet) = book.sheets().next().expect("a sheet");
+        let workbook = station::check(stream).expect("a workbook");
+        let book = Book::of(Checked::Alone(workbook), None);
+        let page = book.sheets().next().expect("a sheet");
         let mut out = Vec::new();
-        let grid = Grid::of(&book, &sheet, marks.of_sheet(number), limits);
+        let grid = Grid::of(&book, &page.sheet, marks.of_sheet(page.number), limits);
         grid.write("s0", limits.cost, &mut out).expect("memory");
         String::from_utf8(out).expect("UTF-8")
     }

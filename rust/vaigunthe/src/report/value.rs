@@ -5,6 +5,7 @@ use super::marks::{write_notes, Mark, Reason};
 use crate::book::{Book, Number, Shown};
 use crate::figures::counted;
 use crate::text::InPage;
+use station::pair::Whose;
 use station::Cell;
 use std::io::{self, Write};
 
@@ -19,7 +20,7 @@ pub fn write<W: Write>(
     limits: &Limits,
     out: &mut W,
 ) -> io::Result<usize> {
-    let shown = cell.map(|cell| book.shown(cell));
+    let shown = cell.map(|cell| book.shown(Whose::Session, cell));
     out.write_all(b"<td")?;
     write_classes(shown.as_ref().map(|(_, shown)| shown), marks, out)?;
     match &shown {

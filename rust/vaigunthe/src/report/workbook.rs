@@ -13,7 +13,9 @@ use crate::lines::type_name;
 use crate::outcome::{Failure, Status};
 use crate::profile::explained;
 use crate::sha256;
+use crate::source::Checked;
 use crate::text::{InPage, WordsInPage};
+use station::pair::Whose;
 use station::{Profile, Refusal, Sheet, SheetKind};
 use std::ffi::OsStr;
 use std::io::{self, ErrorKind, Write};
@@ -164,8 +166,11 @@ impl Part<'_> {
             out,
             "<article aria-labelledby=w{number}>\n<h{level} id=w{number}>{title}</h{level}>"
         )?;
-        let found = match Book::read(&self.stream.bytes, None) {
-            Ok(book) => self.write_book(book, limits, &mut out)?,
+        let found = match station::check(&self.stream.bytes) {
+            Ok(workbook) => {
+                let book = Book::of(Checked::Alone(workbook), None);
+                self.write_book(book, limits, &mut out)?
+            }
             Err(refusal) => self.write_refusal(refusal, &mut out)?,
         };
         writeln!(out, "</article>")?;
@@ -190,7 +195,7 @@ impl Part<'_> {
     ) -> io::Result<Found> {
         book.show_dates();
         let stream = &self.stream.bytes;
-        let sheets: Vec<_> = book.sheets().map(|(_, sheet)| Listed::of(sheet)).collect();
+        let sheets: Vec<_> = book.sheets().map(|page| Listed::of(page.sheet)).collect();
         let counts = Counts {
             bytes: stream.len(),
             sheets: sheets.len(),
@@ -204,7 +209,7 @@ impl Part<'_> {
         facts.push(("Cells", grouped(counts.cells as f64, 0)));
         facts.push(("Sensor's session", self.session(&profile)));
         write_facts(&facts, out)?;
-        if let Some(note) = book.about_dates() {
+        if let Some(note) = book.about_dates(Whose::Session) {
             writeln!(out, "<p class=note>Dates: {note}.</p>")?;
         }
         let level = self.place.level + 1;

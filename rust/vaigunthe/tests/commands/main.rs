@@ -22,6 +22,7 @@ mod report;
 mod sheets;
 mod signals;
 mod strings;
+mod template;
 mod tool;
 mod tour;
 mod usage;

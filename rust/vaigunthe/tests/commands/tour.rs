@@ -35,6 +35,8 @@ fn prints_what_the_readme_says() {
         ("dated.bin", "dates.in"),
         ("results.bin", "results.in"),
         ("ride.bin", "ride.in"),
+        ("template.bin", "template.in"),
+        ("day.bin", "day.in"),
     ] {
         folder.put(name, &fs::read(case(sample)).expect("the sample"));
     }

@@ -104,6 +104,10 @@ fn examples_are_right() {
             folder.put("ride.bin", &ride);
             let results = fs::read(case("results.in")).expect("an input");
             folder.put("results.bin", &results);
+            for name in ["day", "template"] {
+                let stream = fs::read(case(&format!("{name}.in"))).expect("an input");
+                folder.put(format!("{name}.bin"), &stream);
+            }
             fs::create_dir(folder.at("sessions")).expect("a folder");
             folder.put("sessions/one.bin", &stream);
             folder.put("sessions/bad.bin", &stream[1..]);

@@ -1,0 +1,1 @@
+// Theorems: demand 3 over a template and a session. No code.
