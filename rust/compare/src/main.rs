@@ -1,8 +1,10 @@
 //! `compare [COUNT [FIRST]]`: asks the proved library and the second reader the same questions about made streams, formulas and corrections, one of
-//! each seed from FIRST (0) on. Every second seed makes a session as sensors write it too, the others a template with its session. Answers, offsets, whose they are, and every lent byte, unit and number before and after must agree. Prints how often each
+//! each seed from FIRST (0) on. Every second seed makes a session as sensors write it too, the others a template with its session, and two corrections
+//! of one stream in both orders. Answers, offsets, whose they are, and every lent byte, unit and number before and after must agree. Prints how often each
 //! refusal was met; the exit status is 1 where there was a difference, or where a refusal was met fewer than a hundred times in a run of 100,000 seeds or
 //! more.
 
+mod orders;
 mod pairs;
 mod places;
 
@@ -34,16 +36,18 @@ fn theirs<A>(answer: Result<A, second_reader::Refusal>) -> Outcome<A> {
 struct Met {
     places: places::Met,
     pairs: pairs::Met,
+    orders: orders::Met,
 }
 
 impl Met {
     fn print(&self) {
         self.places.print();
         self.pairs.print();
+        self.orders.print();
     }
 
     fn rare(&self, least: u64) -> bool {
-        self.places.rare(least) || self.pairs.rare(least)
+        self.places.rare(least) || self.pairs.rare(least) || self.orders.rare(least)
     }
 }
 
@@ -324,6 +328,7 @@ impl Comparison {
             self.session(seed, &streams::session(seed));
         } else {
             self.pair(seed);
+            self.orders(seed);
         }
     }
 }

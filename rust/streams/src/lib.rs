@@ -127,6 +127,15 @@ pub fn through(seed: u64, stream: &[u8], filled: &[u32]) -> Through {
     places::through(&mut Rng::for_purpose(seed, 15), stream, filled)
 }
 
+/// Two corrections of one stream, often of one cell or of neighbours.
+pub fn corrections(seed: u64, stream: &[u8]) -> [Correction; 2] {
+    let mut rng = Rng::for_purpose(seed, 16);
+    let first = questions::correction(&mut rng, stream);
+    let unique = questions::unique_strings(stream);
+    let second = questions::correction_beside(&mut rng, stream, unique, first);
+    [first, second]
+}
+
 /// A template and a session of any sort.
 pub fn pair(seed: u64) -> Pair {
     pairs::any(&mut Rng::for_purpose(seed, 17))
@@ -155,6 +164,11 @@ pub fn pair_text(seed: u64, pair: &Pair) -> Text {
 /// A correction to ask of a pair, at times aimed at the template.
 pub fn pair_correction(seed: u64, pair: &Pair) -> Correction {
     pairs::correction(&mut Rng::for_purpose(seed, 22), pair)
+}
+
+/// Two corrections of one session, as [`corrections`].
+pub fn pair_corrections(seed: u64, pair: &Pair) -> [Correction; 2] {
+    pairs::corrections(&mut Rng::for_purpose(seed, 23), pair)
 }
 
 /// How many numbers the tables have that are to be filled: the template's, the

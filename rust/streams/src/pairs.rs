@@ -2,8 +2,8 @@
 
 use crate::places;
 use crate::questions::{
-    self, correction_with, own_strings, sheet_positions, unique_strings, units, Correction,
-    NewValue, Text,
+    self, correction_beside, correction_with, own_strings, sheet_positions, unique_strings, units,
+    Correction, NewValue, Text,
 };
 use crate::record::Book;
 use crate::rng::Rng;
@@ -158,6 +158,17 @@ pub(crate) fn correction(rng: &mut Rng, pair: &Pair) -> Correction {
         asked.value = NewValue::Text(index);
     }
     asked
+}
+
+/// Two corrections of one session.
+pub(crate) fn corrections(rng: &mut Rng, pair: &Pair) -> [Correction; 2] {
+    let first = correction_with(rng, &pair.session, pair.meant());
+    let stream = match rng.percent(10) {
+        true => &pair.template,
+        false => &pair.session,
+    };
+    let second = correction_beside(rng, stream, pair.meant(), first);
+    [first, second]
 }
 
 /// How many numbers the tables have that are to be filled.

@@ -127,6 +127,34 @@ fn pick_cell(rng: &mut Rng, cells: &[Found]) -> Found {
     cell
 }
 
+/// Another correction beside one: mostly of the same cell, with a value that fits
+/// as well, or of the cell after it in its row, which may stand in the same
+/// record; else of any.
+pub(crate) fn correction_beside(
+    rng: &mut Rng,
+    stream: &[u8],
+    unique: u32,
+    first: Correction,
+) -> Correction {
+    let column = match rng.below(20) {
+        0..=7 => first.column,
+        8..=12 => first.column.wrapping_add(1),
+        _ => return correction_with(rng, stream, unique),
+    };
+    let value = match first.value {
+        _ if rng.percent(5) => any_value(rng, unique),
+        NewValue::Number(_) => NewValue::Number(number(rng)),
+        NewValue::Text(_) => NewValue::Text(index(rng, unique)),
+        NewValue::Truth(_) | NewValue::Error(_) if rng.percent(50) => NewValue::Truth(truth(rng)),
+        NewValue::Truth(_) | NewValue::Error(_) => NewValue::Error(code(rng)),
+    };
+    Correction {
+        column,
+        value,
+        ..first
+    }
+}
+
 /// The address itself, or at times one that is cut down to it or next to it.
 fn beside(rng: &mut Rng, row: u32, column: u32) -> (u32, u32) {
     match rng.below(60) {

@@ -1,9 +1,10 @@
-//! K5: templates and sessions, and what is asked of them.
+//! K5: templates and sessions, and what is asked of them; K14: two corrections of
+//! one stream.
 
 use crate::{Ways, SEEDS};
 use second_reader::{
-    check, pair_check, pair_correct, pair_fetch, pair_sheet, pair_text, read, PairRefusal,
-    SheetType, Whose,
+    check, correct, pair_check, pair_correct, pair_fetch, pair_sheet, pair_text, read, PairRefusal,
+    SheetType, Value, Whose,
 };
 use streams::{Correction, NewValue, Pair};
 
@@ -310,4 +311,67 @@ fn aimed(template: &[u8], ask: Correction) -> &'static str {
         SheetType::Worksheet => "aimed at no cell of the template, 17",
         _ => "aimed at a chart or macro sheet of the template, 17",
     }
+}
+
+/// The kind of record that a cell stands in, as far as its value tells.
+fn field_size(stream: &[u8], ask: Correction) -> Option<usize> {
+    let mut size = None;
+    let listed = second_reader::list_cells(stream, ask.sheet as usize, |cell| {
+        let here = (u32::from(cell.row), u32::from(cell.column)) == (ask.row, ask.column);
+        if here && matches!(cell.value, Value::Number(_)) {
+            size = Some(cell.value_field.len());
+        }
+    });
+    listed.ok().and(size)
+}
+
+#[test]
+fn two_corrections() {
+    let mut ways = Ways::new(&[
+        "one cell, both granted",
+        "one cell, both granted with unequal bytes",
+        "one cell, only the first granted",
+        "one cell, only the second granted",
+        "two cells, both granted",
+        "two packed neighbours, both granted",
+        "two cells, one granted",
+        "two sheets, both granted",
+    ]);
+    for seed in 0..SEEDS / 4 {
+        let stream = streams::valid(seed);
+        let [first, second] = streams::corrections(seed, &stream);
+        let alone = |ask: Correction| {
+            let mut changed = stream.clone();
+            let value = value_of(ask.value);
+            let answer = correct(&mut changed, ask.sheet, ask.row, ask.column, value);
+            (answer.is_ok(), changed)
+        };
+        let ((one, bytes), (other, others)) = (alone(first), alone(second));
+        let address = |ask: Correction| (ask.sheet, ask.row, ask.column);
+        let same = address(first) == address(second);
+        match (same, one, other) {
+            (true, true, true) => {
+                ways.meet("one cell, both granted");
+                if bytes != others {
+                    ways.meet("one cell, both granted with unequal bytes");
+                }
+            }
+            (true, true, false) => ways.meet("one cell, only the first granted"),
+            (true, false, true) => ways.meet("one cell, only the second granted"),
+            (false, true, true) => {
+                ways.meet("two cells, both granted");
+                if first.sheet != second.sheet {
+                    ways.meet("two sheets, both granted");
+                }
+                let near = first.row == second.row && first.column + 1 == second.column;
+                let packed = [first, second].map(|ask| field_size(&stream, ask) == Some(4));
+                if near && first.sheet == second.sheet && packed == [true, true] {
+                    ways.meet("two packed neighbours, both granted");
+                }
+            }
+            (false, true, false) | (false, false, true) => ways.meet("two cells, one granted"),
+            (_, false, false) => {}
+        }
+    }
+    ways.assert_met();
 }

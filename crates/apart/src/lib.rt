@@ -1,0 +1,1 @@
+// Two corrections of one stream: theorems, no code.
