@@ -2,11 +2,12 @@
  * target/staticlib/libstation_c.a (rt staticlib station_c).
  *
  * Answers. Every function is defined for every argument: any bytes, any place, any number. A refusal's number is 0 where there is
- * none; what isn't answered is 0. After a refusal all lent memory holds what it held.
+ * none; what isn't answered is 0. After a refusal all lent memory holds what it held, but for a replay that an entry stopped.
  *
  * Lent memory. A slice is a pointer and a length, counted in what the pointer points to: bytes for a stream and for tokens, 16-bit
- * units for the room of a string, 64-bit words for the room of cells. It must be valid for its length; the pointer of an empty one
- * must not be null, and all must be aligned. A stream and the buffer that is written must not overlap. Nothing is kept after a call.
+ * units for the room of a string, 32-bit numbers for a table, 64-bit words for the room of cells. It must be valid for its length;
+ * the pointer of an empty one must not be null, and all must be aligned. A stream and what is written must not overlap. Nothing is
+ * kept after a call.
  *
  * Places (sheet, segment, at, end, part, level, next) are plain numbers, good for the stream that gave them until it is changed. A
  * granted correction moves none. With other numbers, or over other bytes, a function still ends, with some answer.
@@ -51,14 +52,16 @@ enum station_refusal {
     STATION_BAD_INDEX = 9,        /* a text cell's index is not below the number of shared strings */
     STATION_BAD_SHEETS = 10,      /* the sheet list and the substreams disagree; at the BOUNDSHEET, or the BOF that none names */
     STATION_ABSENT = 11,          /* the sheet, string or cell asked for is absent, or has no text result; offset 0 */
-    STATION_NO_ROOM = 12,         /* the buffer has fewer units than the string, or the table under two numbers for each string; offset 0 */
+    STATION_NO_ROOM = 12,         /* the buffer has fewer units than the string, the table under two numbers for each string, the journal no room; offset 0 */
     STATION_BAD_TOKEN = 13,       /* the formula has an unknown, cut or misplaced token, or a bad length; the offset is the token's */
     STATION_BAD_STACK = 14,       /* the formula's stack runs short, or does not end with one operand; at the token, or the formula's end */
     STATION_BAD_FUNCTION = 15,    /* the formula has no such function, or uses it wrongly; the offset is the token's */
     STATION_AMBIGUOUS = 16,       /* correction: two or more cells have the address; offset 0 */
     STATION_WRONG_KIND = 17,      /* correction: the cell's kind does not take this kind of value, or the sheet is the template's; offset 0 */
     STATION_DOES_NOT_FIT = 18,    /* correction: the value does not fit the cell; offset 0 */
+    STATION_MISMATCH = 19,        /* replay: the cell's value field is not what the entry says it was, or backwards what it wrote; offset 0 */
     STATION_NOT_A_SESSION = 20,   /* the stream is outside the profile of a sensor's session; offset 0 where no cell is at fault */
+    STATION_BAD_JOURNAL = 21,     /* the journal is cut, malformed or for a stream of another length or number of strings; offset 0 */
 };
 
 struct station_check { uint8_t number; size_t offset; size_t sheets; uint32_t strings; size_t sheet; size_t segment; size_t at; size_t end; };
@@ -187,6 +190,33 @@ struct station_pair_filled { uint8_t whose; uint8_t number; size_t offset; uint3
 struct station_pair_filled station_pair_fill(const uint8_t *template_stream, size_t template_length, const uint8_t *session, size_t session_length,
                                              uint32_t *template_table, size_t template_numbers, uint32_t *session_table,
                                              size_t session_numbers);
+
+/* A journal of granted corrections: 16 bytes (u32 each, lower byte first: how many entries, 16, the stream's length, its number of shared
+ * strings), then entries of 28 bytes. It is lent whole, with room for as many entries as are wanted; nothing is kept beside it.
+ * start: writes the 16 bytes, count 0; 12 if fewer are lent. */
+struct station_answer station_journal_start(const uint8_t *stream, size_t length, uint8_t *journal, size_t journal_length);
+
+/* correct: as station_correct, and a granted correction writes its entry and the count. 21 right after the check's refusals; 12 where there
+ * is no room for an entry, after 11 and before 16. */
+struct station_answer station_journal_correct(uint8_t *stream, size_t length, uint8_t *journal, size_t journal_length, uint32_t sheet, uint32_t row,
+                                              uint32_t column, uint8_t kind, double number, uint32_t index, uint8_t byte);
+
+/* replay: all entries in order, or backwards undone from the last to the first. 21 right after the check's refusals. entries is how many were
+ * replayed; where one was refused (11, 16, 17, 19 or 18) stopped is true, entries is that one's number, counted from 0 in the journal's
+ * order, and those replayed before it stay. The journal is not written. */
+struct station_replayed { uint8_t number; size_t offset; bool stopped; uint32_t entries; };
+struct station_replayed station_replay(uint8_t *stream, size_t length, const uint8_t *journal, size_t journal_length, bool backwards);
+
+/* the same for a session over a template: the journal has the session's length, and the number of strings of the table that the session's
+ * text indices resolve in. An entry for a sheet that only the template has is 17. whose as for station_pair_correct; 0 for an entry. */
+struct station_pair_answer station_pair_journal_start(const uint8_t *template_stream, size_t template_length, const uint8_t *session,
+                                                      size_t session_length, uint8_t *journal, size_t journal_length);
+struct station_pair_answer station_pair_journal_correct(const uint8_t *template_stream, size_t template_length, uint8_t *session,
+                                                        size_t session_length, uint8_t *journal, size_t journal_length, uint32_t sheet,
+                                                        uint32_t row, uint32_t column, uint8_t kind, double number, uint32_t index, uint8_t byte);
+struct station_pair_replayed { uint8_t whose; uint8_t number; size_t offset; bool stopped; uint32_t entries; };
+struct station_pair_replayed station_pair_replay(const uint8_t *template_stream, size_t template_length, uint8_t *session, size_t session_length,
+                                                 const uint8_t *journal, size_t journal_length, bool backwards);
 
 /* profile: whether a stream is of the kind that the sensors write, with how many rows and columns (2, or 3 with the host's seconds); else
  * 20 after any refusal of the check, at the record of the first cell at fault */

@@ -78,7 +78,7 @@ by-frames v u row column l = frame-cells v u (cellsAt row column l) ∙ ap (onFr
 same-frames : (v : NewValue) (u row column : ℕ) (l m : List Cell) → map frameOf l ≡ map frameOf m → onCells v u (cellsAt row column l) ≡ onCells v u (cellsAt row column m)
 same-frames v u row column l m h = by-frames v u row column l ∙ ap (λ (x : List Frame). onFrames v u (framesAt row column x)) h ∙ sym (by-frames v u row column m)
 
-nth-same : {A B : Type 0} (f g : A → B) (d : B) (l : List A) (n : ℕ) → ((x : A) → Nth l n x → f x ≡ g x) → nth l n f d ≡ nth l n g d
+pub nth-same : {A B : Type 0} (f g : A → B) (d : B) (l : List A) (n : ℕ) → ((x : A) → Nth l n x → f x ≡ g x) → nth l n f d ≡ nth l n g d
 unfolding nth
 nth-same f g d [] n h = refl
 nth-same f g d (x ∷ l) zero h = h x first
@@ -125,7 +125,7 @@ at-place row column (d ∷ l) c m h = go (eqb (d .row) row && eqb (d .column) co
     go true i rest = let q : d ≡ c = cc in record { which = 0; is = subst (λ (x : Cell). Nth (d ∷ l) 0 x) q first }
     go false i rest = let q = rest i in record { which = suc (q .which); is = next (q .is) }
 
-both-true : (a b : Bool) → a && b ≡ true → (a ≡ true) × (b ≡ true)
+pub both-true : (a b : Bool) → a && b ≡ true → (a ≡ true) × (b ≡ true)
 both-true true b h = (refl, h)
 both-true false b h = never (cc)
 
@@ -176,7 +176,7 @@ module _ (s : List ℕ) (lent : ℕ) (x y : Asked) (else : Elsewhere x y)
       across-sheets s lent (w .globals) (w .passes) (x .sheet) (y .sheet) (w .sheet) (z .sheet) (w .nth) (z .nth) (eqb-false (x .sheet) (y .sheet) e)
       (here .which) (there .which) (w .cell) (z .cell) (here .is) (there .is)
 
-  fields-apart : (p + widthOf f ≤ q) ⊎ (q + widthOf k ≤ p)
+  pub fields-apart : (p + widthOf f ≤ q) ⊎ (q + widthOf k ≤ p)
   fields-apart = go (by-sheet (eqb (x .sheet) (y .sheet)) refl)
     where
       go : Apart (w .cell) (z .cell) → (p + widthOf f ≤ q) ⊎ (q + widthOf k ≤ p)
@@ -208,19 +208,20 @@ either-order s lent sheets x y hx hy else =
 cell-one : (c d : Cell) → c ∷ [] ≡ d ∷ [] → c ≡ d
 cell-one c d h = cc
 
-module _ (s : List ℕ) (lent sheets : ℕ) (x y : Asked) (one : OneCell x y) where
-  same-cell : {f k : Field} {p q b a : ℕ} (w : Granted s lent (x .sheet) (x .row) (x .column) (x .value) f p b) (z : Granted s lent (y .sheet) (y .row) (y .column) (y .value) k q a) → w .cell ≡ z .cell
+module _ (s : List ℕ) (lent : ℕ) (x y : Asked) (one : OneCell x y) where
+  pub same-cell : {f k : Field} {p q b a : ℕ} (w : Granted s lent (x .sheet) (x .row) (x .column) (x .value) f p b) (z : Granted s lent (y .sheet) (y .row) (y .column) (y .value) k q a) → w .cell ≡ z .cell
   same-cell w z =
       let i : w .sheet ≡ z .sheet = nth-one (w .nth) (subst (λ (n : ℕ). Nth (sheetsOf s) n (z .sheet)) (sym (one .sheet)) (z .nth)) in
       cell-one (w .cell) (z .cell) (sym (w .only) ∙ (λ j. cellsAt (one .row j) (one .column j) (listedOf s (i j))) ∙ z .only)
 
+module _ (s : List ℕ) (lent sheets : ℕ) (x y : Asked) (one : OneCell x y) where
   second-by : (c d : Correction) → outcome s lent sheets x ≡ c → outcome s lent sheets y ≡ d → answerOf c ≡ answer.Granted → answerOf d ≡ answer.Granted → streamAfter (streamAfter s c) d ≡ streamAfter s d
   second-by (refuses m o) d h i a b = never (cc)
   second-by (writes f p m) (refuses n o) h i a b = never (cc)
   second-by (writes f p m) (writes k q n) h i a b =
       let w = granted s lent sheets (x .sheet) (x .row) (x .column) (x .value) f p m h in
       let z = granted s lent sheets (y .sheet) (y .row) (y .column) (y .value) k q n i in
-      let r = same-cell w z in
+      let r = same-cell s lent x y one w z in
       let e : k ≡ f = sym (z .kind) ∙ ap (λ (c : Cell). c .kind) (sym r) ∙ w .kind in
       let g : q ≡ p = sym (z .field) ∙ ap (λ (c : Cell). c .field) (sym r) ∙ w .field in
       (λ j. sets (sets s p (bytesOf (widthOf f) m)) (g j) (bytesOf (widthOf (e j)) n)) ∙ stored-over (widthOf f) m n s p ∙ sym (λ j. sets s (g j) (bytesOf (widthOf (e j)) n))

@@ -55,7 +55,7 @@ fn packed_plan(b: u64) -> Plan
     }
 }
 
-fn number_plan(f: Field, b: u64) -> Plan
+pub fn number_plan(f: Field, b: u64) -> Plan
     ensures { λ r. ⌜ r ≡ numberPlan f b ⌝ }
 {
     match f {
@@ -68,7 +68,7 @@ fn number_plan(f: Field, b: u64) -> Plan
     }
 }
 
-fn text_plan(f: Field, i: u32, unique: u32) -> Plan
+pub fn text_plan(f: Field, i: u32, unique: u32) -> Plan
     ensures { λ r. ⌜ r ≡ textPlan f i unique ⌝ }
 {
     match f {
@@ -81,7 +81,7 @@ fn text_plan(f: Field, i: u32, unique: u32) -> Plan
     }
 }
 
-fn pair_plan(f: Field, right: bool, n: u64) -> Plan
+pub fn pair_plan(f: Field, right: bool, n: u64) -> Plan
     ensures { λ r. ⌜ r ≡ pairPlan f right n ⌝ }
 {
     match f {

@@ -116,7 +116,7 @@ fn with_one(found: Target, one: Target) -> Target
 }
 
 // What was found, with the cell of the address in this row, if it has one.
-fn met(
+pub fn met(
     found: Target,
     id: u16,
     at: usize,
@@ -204,7 +204,7 @@ fn no_sheet(sheets: usize, n: u32) -> u8
 }
 
 // The one cell of an address in a sheet of a stream that passes, with `unique` strings, under a template of so many sheets.
-fn aim_in(s: &[u8], unique: u32, sheets: usize, sheet: u32, row: u32, column: u32) -> Aim
+pub fn aim_in(s: &[u8], unique: u32, sheets: usize, sheet: u32, row: u32, column: u32) -> Aim
     requires { ⌜ length (now s) ≤ 16777216 ⌝ }
     ensures { λ r. ⌜ r ≡ aimIn (now (s .entry)) unique sheets sheet row column ⌝ }
     ensures { λ r. ⌜ AimWithin (length (now (s .entry))) r ⌝ }

@@ -104,7 +104,7 @@ fn whose_number(whose: Whose) -> u8
     }
 }
 
-fn of_number(of: Of) -> u8
+pub fn of_number(of: Of) -> u8
     ensures { λ r. ⌜ r ≡ ofNumber of ⌝ }
 {
     match of {

@@ -2,6 +2,8 @@
 -- what the contract of the function says.
 use Prim.Native.Nat.{ℕ}
 use mathlib.Core.List.{List, [], _∷_}
+use mathlib.Core.Bool.{Bool}
+use lib.ListN.{length}
 use lib.Dec.{eqb}
 use Rattle.walk.specs.Choice.{pick}
 use Rattle.change.specs.declared.NewValue.{NewValue}
@@ -21,13 +23,17 @@ use Rattle.pairtexts.specs.declared.PairFetched.{PairFetched}
 use Rattle.pair.specs.declared.PairCorrected.{PairCorrected}
 use Rattle.pair.specs.Pair.{pairOf, pairSheetOf, pairNameOf, pairCellsOf, pairCorrectionOf, answerOf, sessionAfter}
 use Rattle.pairtexts.specs.Texts.{pairFetchOf, pairBufferOf, pairTextOf, pairTextBuffer}
+use Rattle.entries.specs.Entries.{countIn}
+use Rattle.pairjournal.specs.declared.PairReplayed.{PairReplayed}
+use Rattle.pairjournal.specs.Journals.{pairStartOf, startAnswer, journalStarted, pairJournalledOf, pairJournalAfter, pairReplayOf, sessionReplayed, pairReplayAnswer}
 
--- what an owner lends: a session, a buffer of units, and a table of string places for the template and one for the session
+-- what an owner lends: a session, a buffer of units, a table of string places for the template and one for the session, and a journal
 pub record Memory : Type 0 where
   pub session : List ℕ
   pub buffer : List ℕ
   pub first : List ℕ
   pub second : List ℕ
+  pub journal : List ℕ
 
 pub data Call : Type 0 where
   check : Call
@@ -40,6 +46,9 @@ pub data Call : Type 0 where
   correct : ℕ → ℕ → ℕ → NewValue → Call
   fill : Call
   through : Whose → ℕ → Call
+  begin : Call
+  log : ℕ → ℕ → ℕ → NewValue → Call
+  replay : Bool → Call
 
 pub data Answer : Type 0 where
   checked : PairChecked → Answer
@@ -51,6 +60,7 @@ pub data Answer : Type 0 where
   corrected : PairCorrected → Answer
   filled : PairFilled → Answer
   found : Fetched → Answer
+  replayed : PairReplayed → Answer
 
 -- t is the template
 abbrev pub streamOf : List ℕ → Memory → Whose → List ℕ
@@ -72,6 +82,9 @@ answerTo t m (text n row column) = fetched (pairTextOf t (m .session) n row colu
 answerTo t m (correct n row column v) = corrected (answerOf (pairCorrectionOf t (m .session) n row column v))
 answerTo t m fill = filled (pairFillOf t (m .session) (m .first) (m .second))
 answerTo t m (through w i) = found (throughOf (streamOf t m w) (tableOf m w) i (m .buffer))
+answerTo t m begin = corrected (startAnswer (pairStartOf t (m .session) (length (m .journal))))
+answerTo t m (log n row column v) = corrected (answerOf (pairJournalledOf t (m .session) (m .journal) n row column v))
+answerTo t m (replay back) = replayed (pairReplayAnswer (countIn (m .journal)) (pairReplayOf t (m .session) (m .journal) back))
 
 abbrev pub memoryAfter : List ℕ → Memory → Call → Memory
 memoryAfter t m check = m
@@ -79,16 +92,26 @@ memoryAfter t m (sheet n) = m
 memoryAfter t m (name n) = m
 memoryAfter t m (cells n) = m
 memoryAfter t m (next w v) = m
-memoryAfter t m (fetch w i) = record { session = m .session; buffer = pairBufferOf t (m .session) w i (m .buffer); first = m .first; second = m .second }
-memoryAfter t m (text n row column) = record { session = m .session; buffer = pairTextBuffer t (m .session) n row column (m .buffer); first = m .first; second = m .second }
-memoryAfter t m (correct n row column v) = record { session = sessionAfter (m .session) (pairCorrectionOf t (m .session) n row column v); buffer = m .buffer; first = m .first; second = m .second }
+memoryAfter t m (fetch w i) = record { session = m .session; buffer = pairBufferOf t (m .session) w i (m .buffer); first = m .first; second = m .second; journal = m .journal }
+memoryAfter t m (text n row column) = record { session = m .session; buffer = pairTextBuffer t (m .session) n row column (m .buffer); first = m .first; second = m .second; journal = m .journal }
+memoryAfter t m (correct n row column v) = record { session = sessionAfter (m .session) (pairCorrectionOf t (m .session) n row column v); buffer = m .buffer; first = m .first; second = m .second; journal = m .journal }
 memoryAfter t m fill = record {
   session = m .session;
   buffer = m .buffer;
   first = templateTableAfter t (m .session) (m .first) (m .second);
   second = sessionTableAfter t (m .session) (m .first) (m .second);
+  journal = m .journal;
 }
-memoryAfter t m (through w i) = record { session = m .session; buffer = bufferThrough (streamOf t m w) (tableOf m w) i (m .buffer); first = m .first; second = m .second }
+memoryAfter t m (through w i) = record { session = m .session; buffer = bufferThrough (streamOf t m w) (tableOf m w) i (m .buffer); first = m .first; second = m .second; journal = m .journal }
+memoryAfter t m begin = record { session = m .session; buffer = m .buffer; first = m .first; second = m .second; journal = journalStarted (m .session) (m .journal) (pairStartOf t (m .session) (length (m .journal))) }
+memoryAfter t m (log n row column v) = record {
+  session = sessionAfter (m .session) (pairJournalledOf t (m .session) (m .journal) n row column v);
+  buffer = m .buffer;
+  first = m .first;
+  second = m .second;
+  journal = pairJournalAfter (m .session) (m .journal) n row column v (pairJournalledOf t (m .session) (m .journal) n row column v);
+}
+memoryAfter t m (replay back) = record { session = sessionReplayed (m .session) (pairReplayOf t (m .session) (m .journal) back); buffer = m .buffer; first = m .first; second = m .second; journal = m .journal }
 
 -- ---- one owner's calls alone: the answers in order, and the memory after them
 pub record Run : Type 0 where

@@ -38,7 +38,7 @@ use Rattle.chain.specs.Chain.{Chain, here, on, Plain, Reach, Every}
 use Rattle.chain.proofs.Chain.{Keeps, collect-every, chain-trans, over-ahead, reach-one}
 use Rattle.chain.proofs.Text.{text-chain}
 use Rattle.upheld.specs.Local.{Moves}
-use Rattle.upheld.proofs.Upheld.{has-cell, NotOther, cell-judged}
+use Rattle.upheld.proofs.Stored.{has-cell, NotOther, cell-judged}
 use Rattle.reread.specs.Parts.{Inside, sheet, chart, plain, ListedTo}
 
 -- ---- which way the record of type t at `at`, which ends at f, sends the walk

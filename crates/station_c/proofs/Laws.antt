@@ -37,6 +37,11 @@ use Rattle.pairanswers.specs.Answers.{answerSeen}
 use Rattle.batch.specs.declared.Filled as batch
 use Rattle.batch.specs.Batch.{Batch, filledSeen as batchSeen}
 use Rattle.station_c.specs.Answers.{checkSeen, judgeSeen, correctSeen, fetchSeen, textSeen, sheetSeen, cellsSeen, filledSeen, tableSeen}
+use Rattle.correction.specs.Correction as corrections
+use Rattle.journal.specs.Journal.{journalledOf, journalAfter}
+use Rattle.pairjournal.specs.Journals.{pairJournalledOf, pairJournalAfter}
+use Rattle.journalanswers.specs.declared.Answer as journals
+use Rattle.journalanswers.specs.Answers.{answerSeen as journalSeen}
 
 -- r is what the call gave, a what its promise says, x how the code saw it
 seen : {A B : Type 0} (f : A → B) {a r x : A} {y : B} → r ≡ a → r ≡ x → y ≡ f x → y ≡ f a
@@ -96,3 +101,25 @@ module _ (t s : List ℕ) (n row column : ℕ) (v : NewValue) {w : NewValue} (ma
 
   pub pair-left : {x : List ℕ} → x ≡ sessionAfter s (pairCorrectionOf t s n row column w) → x ≡ sessionAfter s (pairCorrectionOf t s n row column v)
   pair-left i = i ∙ ap (λ (m : NewValue). sessionAfter s (pairCorrectionOf t s n row column m)) made
+
+-- ---- a journalled correction, of a value that was made
+module _ (s j : List ℕ) (n row column : ℕ) (v : NewValue) {w : NewValue} (made : w ≡ v) where
+  pub journal-seen : {y : journals.Answer} → y ≡ journalSeen (corrections.answerOf (journalledOf s 0 0 j n row column w)) → y ≡ journalSeen (corrections.answerOf (journalledOf s 0 0 j n row column v))
+  journal-seen i = i ∙ ap (λ (m : NewValue). journalSeen (corrections.answerOf (journalledOf s 0 0 j n row column m))) made
+
+  pub journal-stream : {x : List ℕ} → x ≡ corrections.streamAfter s (journalledOf s 0 0 j n row column w) → x ≡ corrections.streamAfter s (journalledOf s 0 0 j n row column v)
+  journal-stream i = i ∙ ap (λ (m : NewValue). corrections.streamAfter s (journalledOf s 0 0 j n row column m)) made
+
+  pub journal-left : {x : List ℕ} → x ≡ journalAfter s j n row column w (journalledOf s 0 0 j n row column w) → x ≡ journalAfter s j n row column v (journalledOf s 0 0 j n row column v)
+  journal-left i = i ∙ ap (λ (m : NewValue). journalAfter s j n row column m (journalledOf s 0 0 j n row column m)) made
+
+  -- and over a template t
+  module _ (t : List ℕ) where
+    pub pair-journal-seen : {y : pairs.Answer} → y ≡ answerSeen (pairAnswer (pairJournalledOf t s j n row column w)) → y ≡ answerSeen (pairAnswer (pairJournalledOf t s j n row column v))
+    pair-journal-seen i = i ∙ ap (λ (m : NewValue). answerSeen (pairAnswer (pairJournalledOf t s j n row column m))) made
+
+    pub pair-journal-stream : {x : List ℕ} → x ≡ sessionAfter s (pairJournalledOf t s j n row column w) → x ≡ sessionAfter s (pairJournalledOf t s j n row column v)
+    pair-journal-stream i = i ∙ ap (λ (m : NewValue). sessionAfter s (pairJournalledOf t s j n row column m)) made
+
+    pub pair-journal-left : {x : List ℕ} → x ≡ pairJournalAfter s j n row column w (pairJournalledOf t s j n row column w) → x ≡ pairJournalAfter s j n row column v (pairJournalledOf t s j n row column v)
+    pair-journal-left i = i ∙ ap (λ (m : NewValue). pairJournalAfter s j n row column m (pairJournalledOf t s j n row column m)) made

@@ -1,4 +1,5 @@
 // The five questions as C functions. Each is defined for every argument; a refusal's number is 0 where there is none, and what isn't answered is 0.
+mod journals;
 mod pairs;
 mod sessions;
 mod tables;

@@ -5,4 +5,5 @@ pub mod Globals
 pub mod Sheets
 pub mod Granted
 pub mod Beside
+pub mod Stored
 pub mod Upheld

@@ -1,3 +1,4 @@
 pub mod Upheld
 pub mod Local
 pub mod Granted
+pub mod Stored

@@ -3,6 +3,7 @@
 
 #![forbid(unsafe_code)]
 
+mod journals;
 mod pairs;
 mod questions;
 mod words;

@@ -126,7 +126,7 @@ fn correct(template: &[u8], mut session: Vec<u8>, words: &[&[u8]]) -> Option<Str
     ))
 }
 
-fn new_value(kind: &[u8], value: &[u8]) -> Option<NewValue> {
+pub fn new_value(kind: &[u8], value: &[u8]) -> Option<NewValue> {
     match kind {
         b"number" => Some(NewValue::Number(f64::from_bits(bits(value)?))),
         b"text" => Some(NewValue::Text(number(value)?)),
@@ -137,7 +137,7 @@ fn new_value(kind: &[u8], value: &[u8]) -> Option<NewValue> {
 }
 
 /// The runs of bytes that are others now, each with its offset; `-` where there is none.
-fn changed(before: &[u8], after: &[u8]) -> String {
+pub fn changed(before: &[u8], after: &[u8]) -> String {
     let mut line = String::new();
     let mut last = None;
     for (at, (old, new)) in before.iter().zip(after).enumerate() {

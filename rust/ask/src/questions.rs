@@ -1,5 +1,6 @@
 //! The questions, and how each is answered.
 
+use crate::journals;
 use crate::pairs;
 use crate::words::{bytes, number, numbers};
 use station::{Cell, Pair, Refusal, LONGEST_STRING};
@@ -14,7 +15,7 @@ struct Question {
 }
 
 /// All of them.
-const QUESTIONS: [Question; 10] = [
+const QUESTIONS: [Question; 11] = [
     Question {
         name: "check",
         words: "S",
@@ -64,6 +65,13 @@ const QUESTIONS: [Question; 10] = [
         words: "T S NUMBERS NUMBERS",
         asks: "the places of the strings of both, for a table of NUMBERS numbers for the template and one for the session",
         answer: pairs::fill,
+    },
+    Question {
+        name: "journal",
+        words: "T S J QUESTION",
+        asks: "a question on a journal (J) of the stream's corrections, over a template where T isn't -: start; correct SHEET ROW COLUMN KIND VALUE; \
+               forwards; backwards. After the answer, with tabs between, the changed bytes of the stream and of the journal",
+        answer: journals::journal,
     },
     Question {
         name: "profile",

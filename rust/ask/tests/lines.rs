@@ -782,6 +782,203 @@ fn made_pairs() {
     }
 }
 
+/// Questions about a stored case, CELLS, with a journal, and what document 02 answers to them. It has three strings; the number at row 0, column 1 is pi, its
+/// field at 114; at row 1, column 0 is the text of index 0.
+fn journal_answers(length: usize) -> Vec<(String, String)> {
+    let header = |count: u8| {
+        let length = (length as u32)
+            .to_le_bytes()
+            .map(|byte| format!("{byte:02X}"));
+        format!("{count:02X}00000010000000{}03000000", length.concat())
+    };
+    let zeros = |count: usize| "00".repeat(count);
+    // Sheet 0, row 0, column 1, kind 0, 8 old bytes: pi is 400921FB54442D18, and 2.5 is 4004000000000000.
+    let entry = "000000000000010000000800182D4454FB2109400000000000000440";
+    let empty = header(0);
+    let made = format!("{}{entry}", header(1));
+    let room = format!("{empty}{}", zeros(28));
+    let number = "correct 0 0 1 number 4004000000000000";
+    let mut asked = vec![
+        (
+            format!("-\tCELLS\t{}\tstart", zeros(20)),
+            format!(
+                "ok\t-\t{}",
+                runs(&zeros(20), &format!("{empty}{}", zeros(4)))
+            ),
+        ),
+        (
+            format!("-\tCELLS\t{}\tstart", zeros(15)),
+            "refused 12 at 0\t-\t-".to_string(),
+        ),
+        (
+            "-\tCELLS\t-\tstart".to_string(),
+            "refused 12 at 0\t-\t-".to_string(),
+        ),
+        (
+            "-\t-\t-\tstart".to_string(),
+            "refused 3 at 0\t-\t-".to_string(),
+        ),
+        (
+            format!("-\tCELLS\t{empty}\t{number}"),
+            "refused 12 at 0\t-\t-".to_string(),
+        ),
+        (
+            format!("-\tCELLS\t-\t{number}"),
+            "refused 21 at 0\t-\t-".to_string(),
+        ),
+        (
+            format!("-\tCELLS\t{room}\tcorrect 0 0 0 number 4004000000000000"),
+            "refused 17 at 0\t-\t-".to_string(),
+        ),
+        (
+            format!("-\tCELLS\t{empty}\tforwards"),
+            "replayed 0\t-\t-".to_string(),
+        ),
+        (
+            format!("-\tCELLS\t{made}\tbackwards"),
+            "refused 19 at 0\t-\t-".to_string(),
+        ),
+    ];
+    asked.push((
+        format!("-\tCELLS\t{room}\t{number}"),
+        format!("ok\t{}\t{}", after_pi(), runs(&room, &made)),
+    ));
+    asked.push((
+        format!("-\tCELLS\t{made}\tforwards"),
+        format!("replayed 1\t{}\t-", after_pi()),
+    ));
+    asked
+}
+
+/// The bytes of pi that 2.5 changes: all but the last.
+fn after_pi() -> String {
+    "114=00000000000004".to_string()
+}
+
+/// The runs of bytes in which two words of hex differ.
+fn runs(before: &str, after: &str) -> String {
+    let bytes = |word: &str| -> Vec<u8> {
+        let pairs = word.as_bytes().chunks(2);
+        let byte =
+            |pair: &[u8]| u8::from_str_radix(std::str::from_utf8(pair).unwrap(), 16).unwrap();
+        pairs.map(byte).collect()
+    };
+    changes(&bytes(before), &bytes(after))
+}
+
+#[test]
+fn journals_of_a_case() {
+    let case = Path::new(env!("CARGO_MANIFEST_DIR")).join("../../cases/cells.in");
+    let stream = fs::read(case).expect("a stored case");
+    let asked = journal_answers(stream.len());
+    let questions: Vec<_> = asked
+        .iter()
+        .map(|(question, _)| format!("journal\t{question}").replace("CELLS", &hex(&stream)))
+        .collect();
+    let wanted: Vec<_> = asked.into_iter().map(|(_, answer)| answer).collect();
+    assert_eq!(answers(&questions), wanted);
+    for wrong in [
+        "",
+        "start now",
+        "begin",
+        "correct 0 0 1 number",
+        "correct 0 0 1 number 1",
+        "forwards ",
+        "backwards 1",
+    ] {
+        let question = format!("journal\t-\t-\t-\t{wrong}");
+        assert_eq!(answers(&[question]), ["wrong question"], "{wrong}");
+    }
+    assert_eq!(
+        answers(&["journal\t-\t-\tstart".to_string()]),
+        ["wrong question"]
+    );
+}
+
+/// What the second reader has, of one stream and over a pair.
+#[test]
+fn made_journals() {
+    use second_reader::{Direction, PairUnreplayed, Unreplayed};
+    let ok = |answer: Result<(), String>| answer.map_or_else(|line| line, |()| "ok".to_string());
+    let (mut questions, mut wanted) = (Vec::new(), Vec::new());
+    for seed in 0..400 {
+        let pair = streams::pair(seed);
+        // An empty one can't be told from none.
+        let over = seed % 2 == 0 && !pair.template.is_empty();
+        let template = over.then_some(&pair.template[..]);
+        let stream = match template {
+            Some(_) => pair.session.clone(),
+            None => streams::stream(seed),
+        };
+        let journal = match template {
+            Some(_) => streams::pair_journal(seed, &pair),
+            None => streams::journal(seed, &stream),
+        };
+        let asked = streams::correction(seed, &stream);
+        let (correcting, value) = correction(&asked);
+        let (sheet, row, column) = (asked.sheet, asked.row, asked.column);
+        for question in [
+            "start".to_string(),
+            correcting,
+            "forwards".to_string(),
+            "backwards".to_string(),
+        ] {
+            let (mut stream_after, mut journal_after) = (stream.clone(), journal.clone());
+            let direction = match &question[..] {
+                "backwards" => Direction::Backwards,
+                _ => Direction::Forwards,
+            };
+            let (s, j) = (&mut stream_after[..], &mut journal_after[..]);
+            let answer = match (&question[..], template) {
+                ("start", None) => ok(second_reader::start_journal(s, j).map_err(refused)),
+                ("start", Some(t)) => {
+                    ok(second_reader::pair_start_journal(t, s, j).map_err(pair_refused))
+                }
+                ("forwards" | "backwards", None) => match second_reader::replay(s, j, direction) {
+                    Ok(count) => format!("replayed {count}"),
+                    Err(Unreplayed::Refused(refusal)) => refused(refusal),
+                    Err(Unreplayed::Stopped { number, entry }) => {
+                        format!("refused {number} at {entry}")
+                    }
+                },
+                ("forwards" | "backwards", Some(t)) => {
+                    match second_reader::pair_replay(t, s, j, direction) {
+                        Ok(count) => format!("replayed {count}"),
+                        Err(PairUnreplayed::Refused(refusal)) => pair_refused(refusal),
+                        Err(PairUnreplayed::Stopped { number, entry }) => {
+                            format!("refused {number} at {entry}")
+                        }
+                    }
+                }
+                (_, None) => ok(
+                    second_reader::correct_journalled(s, j, sheet, row, column, value)
+                        .map_err(refused),
+                ),
+                (_, Some(t)) => ok(second_reader::pair_correct_journalled(
+                    t, s, j, sheet, row, column, value,
+                )
+                .map_err(pair_refused)),
+            };
+            wanted.push(format!(
+                "{answer}\t{}\t{}",
+                changes(&stream, &stream_after),
+                changes(&journal, &journal_after)
+            ));
+            let first = template.map_or("-".to_string(), hex);
+            questions.push(format!(
+                "journal\t{first}\t{}\t{}\t{question}",
+                hex(&stream),
+                hex(&journal)
+            ));
+        }
+    }
+    assert_eq!(answers(&questions), wanted);
+    for start in ["ok\t", "replayed ", "refused 19 ", "refused 21 "] {
+        let met = wanted.iter().filter(|line| line.starts_with(start));
+        assert!(met.count() > 10, "{start}");
+    }
+}
+
 #[test]
 fn help_and_arguments() {
     let run = |argument| {
@@ -802,6 +999,7 @@ fn help_and_arguments() {
         "fetch-through S TABLE INDEX UNITS ",
         "pair T S QUESTION ",
         "pair-fill T S NUMBERS NUMBERS ",
+        "journal T S J QUESTION ",
         "profile S ",
         "cadence S ROW ",
     ] {

@@ -5,12 +5,14 @@
 //! - `--assert`: instructions alone, of a smaller stream of each kind; fails where a ratio is above its target;
 //! - `--peers`: beside other readers that the machine has;
 //! - `--places`: a million look-ups of strings through a table of places;
-//! - `--pair`: the questions over a template and a session.
+//! - `--pair`: the questions over a template and a session;
+//! - `--journal`: replay of a journal of 500,000 entries, right and forged.
 
 #![forbid(unsafe_code)]
 
 mod compound;
 mod instructions;
+mod journal;
 mod listers;
 mod pair;
 mod peers;
@@ -131,9 +133,10 @@ fn main() -> ExitCode {
         ["--peers"] => peers::run(),
         ["--places"] => places::run(),
         ["--pair"] => pair::run(),
+        ["--journal"] => journal::run(),
         [WORK, name, file] => return work(name, file),
         _ => {
-            eprintln!("usage: bench [--all | --assert | --peers | --places | --pair]");
+            eprintln!("usage: bench [--all | --assert | --peers | --places | --pair | --journal]");
             return ExitCode::from(2);
         }
     };

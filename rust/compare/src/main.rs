@@ -1,9 +1,10 @@
 //! `compare [COUNT [FIRST]]`: asks the proved library and the second reader the same questions about made streams, formulas and corrections, one of
 //! each seed from FIRST (0) on. Every second seed makes a session as sensors write it too, the others a template with its session, and two corrections
-//! of one stream in both orders. Answers, offsets, whose they are, and every lent byte, unit and number before and after must agree. Prints how often each
-//! refusal was met; the exit status is 1 where there was a difference, or where a refusal was met fewer than a hundred times in a run of 100,000 seeds or
-//! more.
+//! of one stream in both orders; half of them make journals of corrections. Answers, offsets, whose they are, and every lent byte, unit and number before and after
+//! must agree. Prints how often each refusal was met; the exit status is 1 where there was a difference, or where a refusal was met fewer than a hundred times in a
+//! run of 100,000 seeds or more.
 
+mod journals;
 mod orders;
 mod pairs;
 mod places;
@@ -15,7 +16,7 @@ use std::process::ExitCode;
 use std::time::Instant;
 
 /// Refusals by number; 0 counts the answers without one.
-type Counts = [u64; 21];
+type Counts = [u64; 22];
 
 /// Each refusal is to be met this often, in a run of so many seeds or more.
 const LEAST: u64 = 100;
@@ -37,6 +38,7 @@ struct Met {
     places: places::Met,
     pairs: pairs::Met,
     orders: orders::Met,
+    journals: journals::Met,
 }
 
 impl Met {
@@ -44,10 +46,14 @@ impl Met {
         self.places.print();
         self.pairs.print();
         self.orders.print();
+        self.journals.print();
     }
 
     fn rare(&self, least: u64) -> bool {
-        self.places.rare(least) || self.pairs.rare(least) || self.orders.rare(least)
+        self.places.rare(least)
+            || self.pairs.rare(least)
+            || self.orders.rare(least)
+            || self.journals.rare(least)
     }
 }
 
@@ -330,6 +336,9 @@ impl Comparison {
             self.pair(seed);
             self.orders(seed);
         }
+        if seed % 4 < 2 {
+            self.journals(seed);
+        }
     }
 }
 
@@ -466,7 +475,7 @@ fn main() -> ExitCode {
     let start = Instant::now();
     let mut comparison = Comparison {
         differences: 0,
-        counts: [0; 21],
+        counts: [0; 22],
         met: Met::default(),
     };
     let whole = count >= WHOLE;

@@ -6,6 +6,7 @@
 
 use crate::cells::{is_error_code, is_truth, Cell, Value};
 use crate::correction::{field_bytes, Field, NewValue};
+use crate::pair::{Pair, PairRefusal};
 use crate::survey::Survey;
 use crate::{rk, Refusal};
 use std::collections::{BTreeSet, HashMap};
@@ -61,6 +62,58 @@ pub fn replay(stream: &mut [u8], journal: &[u8], direction: Direction) -> Result
     replay_over(Template::NONE, stream, journal, direction)
 }
 
+/// Why a replay over a pair didn't come to its end.
+#[derive(Clone, Copy, Debug, PartialEq, Eq)]
+pub enum PairUnreplayed {
+    /// A stream or the journal is refused, and nothing was replayed.
+    Refused(PairRefusal),
+    /// An entry is refused, as in [`Unreplayed`].
+    Stopped {
+        /// The number of the refusal.
+        number: u8,
+        /// The number of the entry.
+        entry: u32,
+    },
+}
+
+/// Checks both streams and starts the session's journal, as `start_journal`.
+pub fn pair_start_journal(
+    template: &[u8],
+    session: &[u8],
+    journal: &mut [u8],
+) -> Result<(), PairRefusal> {
+    let lent = Template::of(template, session)?;
+    start_over(lent, session, journal).map_err(PairRefusal::Question)
+}
+
+/// Corrects one cell of the session, with its entry, as `correct_journalled`.
+pub fn pair_correct_journalled(
+    template: &[u8],
+    session: &mut [u8],
+    journal: &mut [u8],
+    sheet: u32,
+    row: u32,
+    column: u32,
+    value: NewValue,
+) -> Result<(), PairRefusal> {
+    let lent = Template::of(template, session)?;
+    correct_over(lent, session, journal, (sheet, row, column), value).map_err(PairRefusal::Question)
+}
+
+/// Replays a journal on the session, as `replay`.
+pub fn pair_replay(
+    template: &[u8],
+    session: &mut [u8],
+    journal: &[u8],
+    direction: Direction,
+) -> Result<u32, PairUnreplayed> {
+    let lent = Template::of(template, session).map_err(PairUnreplayed::Refused)?;
+    replay_over(lent, session, journal, direction).map_err(|unreplayed| match unreplayed {
+        Unreplayed::Refused(refusal) => PairUnreplayed::Refused(PairRefusal::Question(refusal)),
+        Unreplayed::Stopped { number, entry } => PairUnreplayed::Stopped { number, entry },
+    })
+}
+
 /// What counts of the template that a session leans on.
 #[derive(Clone, Copy)]
 struct Template {
@@ -75,6 +128,12 @@ impl Template {
         unique: 0,
         sheets: 0,
     };
+
+    /// Once both streams pass: after this only the question is refused.
+    fn of(template: &[u8], session: &[u8]) -> Result<Self, PairRefusal> {
+        let (unique, sheets) = Pair::of(template, session)?.lent();
+        Ok(Template { unique, sheets })
+    }
 }
 
 fn start_over(template: Template, stream: &[u8], journal: &mut [u8]) -> Result<(), Refusal> {

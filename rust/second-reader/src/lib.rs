@@ -39,7 +39,10 @@ pub use compact::{compact, compact_session, Compacted};
 pub use compare::{compare, Address, Difference, RefusedSide, Side};
 pub use correction::{correct, NewValue};
 pub use formula::judge;
-pub use journal::{correct_journalled, replay, start_journal, Direction, Unreplayed};
+pub use journal::{
+    correct_journalled, pair_correct_journalled, pair_replay, pair_start_journal, replay,
+    start_journal, Direction, PairUnreplayed, Unreplayed,
+};
 pub use pair::{
     pair_cells, pair_check, pair_correct, pair_fetch, pair_fill, pair_sheet, pair_sheet_name,
     pair_text, PairRefusal, PairSheet, Whose,

@@ -25,8 +25,8 @@ pub enum Whose {
 pub enum PairRefusal {
     /// The check refuses this stream, at an offset in it.
     Stream(Whose, Refusal),
-    /// The question is refused, with 11, 12, 16, 17 or 18 at 0, or with 1 for a
-    /// result that is too long; that is no stream's fault.
+    /// The question is refused, with 11, 12, 16, 17, 18 or 21 at 0, or with 1 for
+    /// a result that is too long; that is no stream's fault.
     Question(Refusal),
 }
 
@@ -197,6 +197,14 @@ impl<'a> Pair<'a> {
         let session = Survey::with_lent(session, template.strings.unique())
             .map_err(|refusal| PairRefusal::Stream(Whose::Session, refusal))?;
         Ok(Pair { template, session })
+    }
+
+    /// How many strings and how many sheets the template has.
+    pub fn lent(&self) -> (u32, u32) {
+        let Survey {
+            strings, sheets, ..
+        } = &self.template;
+        (strings.unique(), sheets.len() as u32)
     }
 
     /// The stream that a sheet comes from, and its entry there: by number alone,

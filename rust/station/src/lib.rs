@@ -23,6 +23,7 @@
 //! ```
 //!
 //! Many sessions may share the sheets and strings of one template: [`mod@pair`] has the questions over both.
+//! [`journal`] keeps what was corrected, and makes it again or takes it back.
 //!
 //! - A stream has at most 16,777,216 bytes; a longer one is refused with number 1.
 //! - After a refusal all lent memory holds what it held.
@@ -32,6 +33,7 @@
 
 #![warn(missing_docs)]
 
+pub mod journal;
 pub mod pair;
 mod raw;
 
@@ -73,7 +75,7 @@ impl fmt::Display for Refusal {
 impl std::error::Error for Refusal {}
 
 /// What the refusals mean.
-const MEANINGS: [(u8, &str); 19] = [
+const MEANINGS: [(u8, &str); 21] = [
     (1, "the stream is longer than 16,777,216 bytes"),
     (
         2,
@@ -99,7 +101,7 @@ const MEANINGS: [(u8, &str); 19] = [
     (11, "the sheet, string or cell asked for is absent"),
     (
         12,
-        "the buffer has fewer units than the string, or the table under two numbers for each string",
+        "the buffer has fewer units than the string, the table under two numbers for each string, or the journal no room",
     ),
     (
         13,
@@ -117,8 +119,16 @@ const MEANINGS: [(u8, &str); 19] = [
     ),
     (18, "the value does not fit the cell"),
     (
+        19,
+        "the cell does not hold what the journal's entry says",
+    ),
+    (
         20,
         "the stream is outside the profile of a sensor's session",
+    ),
+    (
+        21,
+        "the journal is cut or malformed, or it is another stream's",
     ),
 ];
 

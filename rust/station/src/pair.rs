@@ -120,7 +120,7 @@ impl fmt::Display for Refused {
 impl std::error::Error for Refused {}
 
 /// The number 0 says that there is no refusal.
-fn passed(whose: u8, number: u8, offset: usize) -> Result<(), Refused> {
+pub(crate) fn passed(whose: u8, number: u8, offset: usize) -> Result<(), Refused> {
     settled(number, offset).map_err(|refusal| Refused {
         whose: Whose::of(whose),
         refusal,

@@ -140,6 +140,23 @@ pub struct PairFilled {
 }
 
 #[repr(C)]
+pub struct Replayed {
+    pub number: u8,
+    pub offset: usize,
+    pub stopped: bool,
+    pub entries: u32,
+}
+
+#[repr(C)]
+pub struct PairReplayed {
+    pub whose: u8,
+    pub number: u8,
+    pub offset: usize,
+    pub stopped: bool,
+    pub entries: u32,
+}
+
+#[repr(C)]
 pub struct Profile {
     pub number: u8,
     pub offset: usize,
@@ -327,6 +344,64 @@ extern "C" {
         session_table: *mut u32,
         session_numbers: usize,
     ) -> PairFilled;
+    pub fn station_journal_start(
+        stream: *const u8,
+        length: usize,
+        journal: *mut u8,
+        journal_length: usize,
+    ) -> Answer;
+    pub fn station_journal_correct(
+        stream: *mut u8,
+        length: usize,
+        journal: *mut u8,
+        journal_length: usize,
+        sheet: u32,
+        row: u32,
+        column: u32,
+        kind: u8,
+        number: f64,
+        index: u32,
+        byte: u8,
+    ) -> Answer;
+    pub fn station_replay(
+        stream: *mut u8,
+        length: usize,
+        journal: *const u8,
+        journal_length: usize,
+        backwards: bool,
+    ) -> Replayed;
+    pub fn station_pair_journal_start(
+        template: *const u8,
+        template_length: usize,
+        session: *const u8,
+        session_length: usize,
+        journal: *mut u8,
+        journal_length: usize,
+    ) -> PairAnswer;
+    pub fn station_pair_journal_correct(
+        template: *const u8,
+        template_length: usize,
+        session: *mut u8,
+        session_length: usize,
+        journal: *mut u8,
+        journal_length: usize,
+        sheet: u32,
+        row: u32,
+        column: u32,
+        kind: u8,
+        number: f64,
+        index: u32,
+        byte: u8,
+    ) -> PairAnswer;
+    pub fn station_pair_replay(
+        template: *const u8,
+        template_length: usize,
+        session: *mut u8,
+        session_length: usize,
+        journal: *const u8,
+        journal_length: usize,
+        backwards: bool,
+    ) -> PairReplayed;
     pub fn station_profile(stream: *const u8, length: usize) -> Profile;
     pub fn station_cadence(stream: *const u8, length: usize, row: u32) -> Pair;
     pub fn station_pairs(stream: *const u8, length: usize) -> Pairs;

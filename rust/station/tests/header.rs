@@ -4,6 +4,7 @@
 #[path = "../src/raw.rs"]
 mod raw;
 
+use station::journal::{self, Direction, Journal, Unreplayed};
 use station::{check, correct, judge, NewValue, Refusal};
 use std::fs;
 use std::path::Path;
@@ -50,6 +51,19 @@ fn corrected(name: &str, row: u32, column: u32, value: f64) -> Result<(), Refusa
     correct(&mut case(name), 0, row, column, NewValue::Number(value))
 }
 
+/// A correction made again where it is made already: the entry that stops it.
+fn replayed_twice() -> Result<(), Refusal> {
+    let mut stream = case("cells");
+    let mut kept = Journal::started(&stream)?;
+    kept.make_room();
+    kept.correct(&mut stream, 0, 0, 1, NewValue::Number(2.5))?;
+    match kept.replay(&mut stream, Direction::Forwards) {
+        Ok(_) => Ok(()),
+        Err(Unreplayed::Refused(refusal)) => Err(refusal),
+        Err(Unreplayed::Stopped { number, .. }) => Err(Refusal { number, offset: 0 }),
+    }
+}
+
 /// For each name a question that is refused so.
 #[test]
 fn each_refusal_has_its_name() {
@@ -75,9 +89,14 @@ fn each_refusal_has_its_name() {
         ("AMBIGUOUS", corrected("repeated-address", 7, 7, 1.0)),
         ("WRONG_KIND", corrected("cells", 0, 0, 1.0)),
         ("DOES_NOT_FIT", corrected("cells", 0, 2, 0.1)),
+        ("MISMATCH", replayed_twice()),
         (
             "NOT_A_SESSION",
             station::profile(&case("cells")).map(|_| ()),
+        ),
+        (
+            "BAD_JOURNAL",
+            journal::correct(&mut case("cells"), &mut [], 0, 0, 1, NewValue::Number(1.0)),
         ),
     ];
     let given = refused.map(|(name, answer)| (name, answer.expect_err(name).number));

@@ -53,6 +53,7 @@ struct Desk {
     words: Vec<u64>,
     table: Vec<u32>,
     template_table: Vec<u32>,
+    journal: Vec<u8>,
     check: raw::Check,
     sheet: raw::Sheet,
 }
@@ -99,7 +100,7 @@ fn touched(stack: &mut [u8], question: Question, desk: &mut Desk) -> usize {
 }
 
 /// Each C function. They come in an order in which one has the places that it needs from those before it.
-const QUESTIONS: [(&str, Question); 25] = [
+const QUESTIONS: [(&str, Question); 31] = [
     ("station_version", |_| {
         // SAFETY: it takes nothing.
         black_box(unsafe { raw::station_version() });
@@ -228,6 +229,61 @@ const QUESTIONS: [(&str, Question); 25] = [
             )
         });
     }),
+    ("station_journal_start", |desk| {
+        let Desk {
+            stream, journal, ..
+        } = desk;
+        let (lent, room) = (journal.as_mut_ptr(), journal.len());
+        black_box(unsafe { raw::station_journal_start(stream.as_ptr(), stream.len(), lent, room) });
+    }),
+    ("station_journal_correct", |desk| {
+        let Desk {
+            stream, journal, ..
+        } = desk;
+        let (lent, room) = (journal.as_mut_ptr(), journal.len());
+        let (bytes, length) = (stream.as_mut_ptr(), stream.len());
+        black_box(unsafe {
+            raw::station_journal_correct(bytes, length, lent, room, 0, 0, 1, 0, 4.5, 0, 0)
+        });
+    }),
+    ("station_replay", |desk| {
+        let Desk {
+            stream, journal, ..
+        } = desk;
+        let (bytes, length) = (stream.as_mut_ptr(), stream.len());
+        for backwards in [true, false] {
+            black_box(unsafe {
+                raw::station_replay(bytes, length, journal.as_ptr(), journal.len(), backwards)
+            });
+        }
+    }),
+    ("station_pair_journal_start", |desk| {
+        let (template, length, session, own) = pair(desk);
+        let (lent, room) = (desk.journal.as_mut_ptr(), desk.journal.len());
+        black_box(unsafe {
+            raw::station_pair_journal_start(template, length, session, own, lent, room)
+        });
+    }),
+    ("station_pair_journal_correct", |desk| {
+        let (template, length, _, own) = pair(desk);
+        let session = desk.stream.as_mut_ptr();
+        let (lent, room) = (desk.journal.as_mut_ptr(), desk.journal.len());
+        black_box(unsafe {
+            raw::station_pair_journal_correct(
+                template, length, session, own, lent, room, 0, 0, 1, 0, 5.5, 0, 0,
+            )
+        });
+    }),
+    ("station_pair_replay", |desk| {
+        let (template, length, _, own) = pair(desk);
+        let session = desk.stream.as_mut_ptr();
+        let (lent, room) = (desk.journal.as_ptr(), desk.journal.len());
+        for backwards in [true, false] {
+            black_box(unsafe {
+                raw::station_pair_replay(template, length, session, own, lent, room, backwards)
+            });
+        }
+    }),
     ("station_profile", |desk| {
         let Desk { stream, .. } = desk;
         black_box(unsafe { raw::station_profile(stream.as_ptr(), stream.len()) });
@@ -312,6 +368,7 @@ fn desk(stream: Vec<u8>) -> Desk {
         // For the strings of the streams of a million bytes.
         table: vec![0; 700_000],
         template_table: vec![0; 8],
+        journal: vec![0; 1_000],
         check,
         sheet,
     }

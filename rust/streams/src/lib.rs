@@ -12,6 +12,7 @@ mod cells;
 mod contents;
 mod damage;
 mod formula;
+mod journals;
 mod jumps;
 mod pairs;
 mod places;
@@ -175,6 +176,26 @@ pub fn pair_corrections(seed: u64, pair: &Pair) -> [Correction; 2] {
 /// session's.
 pub fn pair_numbers(seed: u64, pair: &Pair) -> [usize; 2] {
     pairs::numbers(&mut Rng::for_purpose(seed, 24), pair)
+}
+
+/// How many bytes are lent for starting a journal, mostly around the least.
+pub fn journal_room(seed: u64) -> usize {
+    journals::room(&mut Rng::for_purpose(seed, 40))
+}
+
+/// A journal for a stream as it is: one that can be replayed on it forwards or
+/// backwards, or one with entries that stop a replay, malformed, cut or another
+/// stream's; at times with room for more entries.
+pub fn journal(seed: u64, stream: &[u8]) -> Vec<u8> {
+    let unique = questions::unique_strings(stream);
+    journals::any(&mut Rng::for_purpose(seed, 41), stream, unique, 0)
+}
+
+/// The same for a session, at times with entries aimed at the template.
+pub fn pair_journal(seed: u64, pair: &Pair) -> Vec<u8> {
+    let (unique, [sheets, _]) = (pair.meant(), pair.sheets());
+    let mut rng = Rng::for_purpose(seed, 42);
+    journals::any(&mut rng, &pair.session, unique, sheets as u32)
 }
 
 /// A sheet number to ask a stream's cells of.

@@ -80,12 +80,12 @@ fn spoil_index(rng: &mut Rng, book: &mut Book, lent: u32) {
 }
 
 impl Pair {
-    fn sheets(&self) -> [usize; 2] {
+    pub(crate) fn sheets(&self) -> [usize; 2] {
         [&self.template, &self.session].map(|stream| sheet_positions(stream).len())
     }
 
     /// How many strings the session's text indices may mean.
-    fn meant(&self) -> u32 {
+    pub(crate) fn meant(&self) -> u32 {
         own_strings(&self.session).unwrap_or_else(|| unique_strings(&self.template))
     }
 

@@ -54,12 +54,14 @@ pub struct Text {
 
 /// A cell as it is found by a look at the stream, without any judging.
 #[derive(Clone, Copy)]
-struct Found {
-    kind: u16,
-    row: u16,
-    column: u16,
+pub(crate) struct Found {
+    pub kind: u16,
+    pub row: u16,
+    pub column: u16,
     /// Whether it is a formula whose result is a text.
     has_text: bool,
+    /// Where its value field starts in its record's body.
+    field: usize,
 }
 
 impl Found {
@@ -290,17 +292,46 @@ pub(crate) fn own_strings(stream: &[u8]) -> Option<u32> {
 /// The cells from a BOF on to its EOF, nested charts left out.
 fn cells_from(stream: &[u8], position: usize) -> Vec<Found> {
     let mut cells = Vec::new();
-    let mut depth = 0;
-    for (kind, body) in records(stream, position) {
-        match kind {
-            kind::BOF => depth += 1,
-            kind::EOF if depth <= 1 => break,
-            kind::EOF => depth -= 1,
-            _ if depth == 1 && kind::CELLS.contains(&kind) => append_cells(&mut cells, kind, body),
-            _ => {}
-        }
+    for (kind, body) in cell_records(stream, position) {
+        append_cells(&mut cells, kind, body);
     }
     cells
+}
+
+/// The cell records from a BOF on to its EOF, nested charts left out.
+fn cell_records(stream: &[u8], position: usize) -> impl Iterator<Item = (u16, &[u8])> {
+    let mut depth = 0;
+    let own = records(stream, position).map_while(move |(kind, body)| {
+        match kind {
+            kind::BOF => depth += 1,
+            kind::EOF if depth <= 1 => return None,
+            kind::EOF => depth -= 1,
+            _ => {}
+        }
+        Some((depth == 1 && kind::CELLS.contains(&kind)).then_some((kind, body)))
+    });
+    own.flatten()
+}
+
+/// The cells of all sheets with what their value fields hold, eight bytes at most:
+/// the sheet's number, the cell, and the bytes from its field's start on.
+pub(crate) fn cells_with_fields(stream: &[u8]) -> Vec<(u32, Found, [u8; 8])> {
+    let mut all = Vec::new();
+    for (sheet, position) in (0..).zip(sheet_positions(stream)) {
+        for (kind, body) in cell_records(stream, position as usize) {
+            let mut cells = Vec::new();
+            append_cells(&mut cells, kind, body);
+            all.extend(cells.into_iter().map(|cell| {
+                let bytes = body.get(cell.field..).unwrap_or_default();
+                let mut field = [0; 8];
+                for (to, from) in field.iter_mut().zip(bytes) {
+                    *to = *from;
+                }
+                (sheet, cell, field)
+            }));
+        }
+    }
+    all
 }
 
 fn append_cells(cells: &mut Vec<Found>, kind: u16, body: &[u8]) {
@@ -314,16 +345,17 @@ fn append_cells(cells: &mut Vec<Found>, kind: u16, body: &[u8]) {
     // A few columns of a multiple record are enough to ask for.
     let last = last.min(column.saturating_add(255));
     let has_text = kind == kind::FORMULA && is_text_result(body);
-    cells.extend((column..=last).map(|column| Found {
+    cells.extend((column..=last).zip(0..).map(|(column, number)| Found {
         kind,
         row,
         column,
         has_text,
+        field: 6 + 6 * number,
     }));
 }
 
 /// A value of the kind that a cell takes, in range or not.
-fn matching_value(rng: &mut Rng, unique: u32, kind: u16) -> NewValue {
+pub(crate) fn matching_value(rng: &mut Rng, unique: u32, kind: u16) -> NewValue {
     match kind {
         kind::NUMBER | kind::RK | kind::MULRK => NewValue::Number(number(rng)),
         kind::LABELSST => NewValue::Text(index(rng, unique)),
@@ -333,7 +365,7 @@ fn matching_value(rng: &mut Rng, unique: u32, kind: u16) -> NewValue {
     }
 }
 
-fn any_value(rng: &mut Rng, unique: u32) -> NewValue {
+pub(crate) fn any_value(rng: &mut Rng, unique: u32) -> NewValue {
     match rng.below(4) {
         0 => NewValue::Number(number(rng)),
         1 => NewValue::Text(index(rng, unique)),

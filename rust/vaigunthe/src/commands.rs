@@ -7,7 +7,8 @@ use crate::outcome::{Failure, Output, Status};
 use crate::page::{Page, Part};
 use crate::text::Word;
 use crate::{
-    cadence, check, completions, correct, export, help, judge, lines, manual, profile, report,
+    cadence, check, completions, correct, export, help, journal, judge, lines, manual, profile,
+    report,
 };
 use std::ffi::{OsStr, OsString};
 use std::io::Write;
@@ -29,12 +30,14 @@ pub struct Command {
     pub run: fn(&Arguments, &mut Output) -> Result<Status, Failure>,
 }
 
-pub static COMMANDS: [Command; 14] = [
+pub static COMMANDS: [Command; 16] = [
     check::CHECK,
     lines::SHEETS,
     report::REPORT,
     export::EXPORT,
     correct::CORRECT,
+    journal::JOURNAL,
+    journal::REPLAY,
     lines::LIST,
     lines::STRINGS,
     lines::FETCH,

@@ -4,10 +4,11 @@ use crate::address::Address;
 use crate::arguments::{missing, too_many, Arguments, Operands, Setting};
 use crate::commands::Command;
 use crate::input::STANDARD;
-use crate::outcome::{complain, Failure, Output, Status};
+use crate::journal::Kept;
+use crate::outcome::{Failure, Output, Status};
 use crate::replace::Place;
 use crate::source::{Checked, Source, TEMPLATE};
-use crate::text::{Name, Word};
+use crate::text::Word;
 use crate::value;
 use crate::wanted::Wanted;
 use station::pair::Refused;
@@ -23,6 +24,7 @@ pub const CORRECT: Command = Command {
         "FILE SHEET CELL KIND VALUE --in-place",
         "FILE SHEET CELL KIND VALUE --output OUT",
         "FILE SHEET CELL text --text TEXT --in-place",
+        "FILE SHEET CELL KIND VALUE --in-place --journal J",
     ],
     operands: Operands::AtLeast(&["FILE", "SHEET", "CELL", "KIND"]),
     words: &["number", "text", "truth", "error"],
@@ -42,6 +44,11 @@ pub const CORRECT: Command = Command {
             "in the place of VALUE: the shared string with exactly these characters, the first where several have them; refused where none has",
         ),
         TEMPLATE,
+        Setting::with(
+            "--journal",
+            "J",
+            "keep the correction in the journal J, which is made where it isn't there; stream and journal are both replaced, or neither is",
+        ),
     ],
     examples: &[
         (
@@ -59,6 +66,10 @@ pub const CORRECT: Command = Command {
         (
             "vaigunthe correct session.bin 0 1 3 error '#N/A' --in-place",
             "row 1, column 3, both counted from 0",
+        ),
+        (
+            "vaigunthe correct session.bin 0 B1 number 72.5 --in-place --journal session.j",
+            "with an entry in a journal (vaigunthe help journal)",
         ),
         (
             "vaigunthe correct day.bin 0 B2 number 72.5 --template template.bin --in-place",
@@ -97,6 +108,12 @@ replaced. Runs that replace the same file wait for each other, with a lock on it
 (flock), so that no granted correction is lost. A run that is ended by SIGINT,
 SIGTERM or SIGHUP removes its new file; what a killed one leaves is removed by
 the next run for the same file.
+
+A journal that is another stream's is refused with 21, and nothing is changed.
+The new journal is written beside the old one first, .J.vaigunthe-next; then the
+stream is replaced, then the journal. Where a run is killed in between, the next
+correction with this journal looks whether FILE has that correction: if so the
+journal gets its entry, and else the entry goes.
 ",
     run,
 };
@@ -139,10 +156,14 @@ impl Question {
         Ok(Question { sheet, cell, value })
     }
 
-    fn ask(&self, source: &mut Source<'_>) -> Result<(), Refused> {
+    fn ask(&self, source: &mut Source<'_>, kept: Option<&mut Kept<'_>>) -> Result<(), Refused> {
         let (sheet, value) = self.found(source)?;
         let Address { row, column } = self.cell;
-        source.correct((sheet, row, column), value)
+        let address = (sheet, row, column);
+        match kept {
+            None => source.correct(address, value),
+            Some(kept) => kept.correct(source, address, value),
+        }
     }
 
     /// The number of the sheet and the value, looked up where they are given by name and characters.
@@ -217,6 +238,9 @@ fn run(arguments: &Arguments, out: &mut Output) -> Result<Status, Failure> {
     let question = Question::of(arguments)?;
     match Target::of(arguments)? {
         Target::File(name) => to_file(arguments, &question, name, out),
+        Target::Output if arguments.has("--journal") => Err(Failure::usage(
+            "--journal goes with a file that is replaced together with it",
+        )),
         Target::Output => to_output(arguments, &question, out),
     }
 }
@@ -228,21 +252,32 @@ fn to_file(
     name: &OsStr,
     out: &mut Output,
 ) -> Result<Status, Failure> {
-    let place = Place::of(Path::new(name)).map_err(|error| Failure::of_file(name, &error))?;
+    let failed = |error: io::Error| Failure::of_file(name, &error);
+    let place = Place::of(Path::new(name)).map_err(failed)?;
+    let journal = arguments.option("--journal");
+    if journal.is_some_and(|journal| place.is_of(Path::new(journal))) {
+        return Err(failed(io::Error::other(
+            "stream and journal can't be one file",
+        )));
+    }
     let mut source = Source::read(arguments)?;
     source.spare_template(&place)?;
-    if let Err(refused) = question.ask(&mut source) {
+    let mut kept = match journal {
+        Some(journal) => Some(Kept::take(journal, &source)?),
+        None => None,
+    };
+    if let Err(refused) = question.ask(&mut source, kept.as_mut()) {
         return refuse(&source, question, refused, out);
     }
-    place
-        .put(true, |out| out.write_all(&source.session().bytes))
-        .map_err(|error| Failure::of_file(name, &error))?;
-    // The file is replaced by now, so this can no longer be a failure.
-    if let Err(error) = place.sync_folder() {
-        let name = Name(name);
-        complain(format_args!(
-            "{name} is written, but a power cut may still undo it: {error}"
-        ));
+    let put = || {
+        let written = place.put(true, |out| out.write_all(&source.session().bytes));
+        written.map_err(failed)?;
+        place.tell_unless_synced(name);
+        Ok(())
+    };
+    match kept {
+        Some(kept) => kept.put(put)?,
+        None => put()?,
     }
     writeln!(out, "granted")?;
     Ok(Status::Answered)
@@ -266,7 +301,7 @@ fn to_output(
     out: &mut Output,
 ) -> Result<Status, Failure> {
     let mut source = Source::read(arguments)?;
-    match question.ask(&mut source) {
+    match question.ask(&mut source, None) {
         Ok(()) => {
             out.write_all(&source.session().bytes)?;
             out.flush()?;

@@ -5,6 +5,9 @@ mod folder;
 mod grid;
 mod json;
 
+pub use csv::{field, write_shown};
+pub use json::write_value;
+
 use crate::arguments::{Arguments, Operands, Setting};
 use crate::book::Book;
 use crate::commands::Command;

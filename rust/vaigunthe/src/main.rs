@@ -20,6 +20,7 @@ mod folder;
 mod help;
 mod hint;
 mod input;
+mod journal;
 mod judge;
 mod lines;
 mod manual;

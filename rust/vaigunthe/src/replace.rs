@@ -1,10 +1,13 @@
 //! Puts a file in the place of another, whole or not at all.
 
+use crate::outcome::complain;
 use crate::signals::Doomed;
+use crate::text::Name;
+use std::ffi::{OsStr, OsString};
 use std::fs::{self, File, Metadata, OpenOptions};
-use std::io::{self, BufWriter, ErrorKind, Write};
+use std::io::{self, BufWriter, ErrorKind, Read, Write};
 use std::os::unix::ffi::OsStrExt;
-use std::os::unix::fs::{fchown, MetadataExt, OpenOptionsExt};
+use std::os::unix::fs::{fchown, FileExt, MetadataExt, OpenOptionsExt};
 use std::path::{Path, PathBuf};
 
 /// A file that is being written.
@@ -90,7 +93,7 @@ impl Place {
     ) -> io::Result<()> {
         let new = Temporary::beside(&self.path, self.old.is_some())?;
         if let Some(old) = &self.old {
-            new.take_after(&old.found)?;
+            take_after(&new.file, &old.found)?;
         }
         let mut out = BufWriter::with_capacity(crate::BUFFER, &new.file);
         write(&mut out)?;
@@ -105,6 +108,109 @@ impl Place {
     /// Has the system write down that the folder names the new file.
     pub fn sync_folder(&self) -> io::Result<()> {
         File::open(folder(&self.path))?.sync_all()
+    }
+
+    /// The same for a file that is replaced by now, so that it can no longer be a failure.
+    pub fn tell_unless_synced(&self, name: &OsStr) {
+        if let Err(error) = self.sync_folder() {
+            let name = Name(name);
+            complain(format_args!(
+                "{name} is written, but a power cut may still undo it: {error}"
+            ));
+        }
+    }
+
+    /// Whether a file at this path would be put here, be it there or not.
+    pub fn is_of(&self, path: &Path) -> bool {
+        let named = |path: &Path| {
+            let folder = fs::canonicalize(folder(path)).ok()?;
+            Some(folder.join(path.file_name()?))
+        };
+        let end = fs::canonicalize(path).unwrap_or(path.to_path_buf());
+        let (here, there) = (named(&self.path), named(&end));
+        here.is_some() && here == there
+    }
+}
+
+/// Where a file is kept that is to take the place of another: beside it, hidden, with its name.
+pub fn next_of(path: &Path) -> PathBuf {
+    let path = fs::canonicalize(path).unwrap_or(path.to_path_buf());
+    let mut name = OsString::from(".");
+    name.push(path.file_name().unwrap_or_default());
+    name.push(".vaigunthe-next");
+    folder(&path).join(name)
+}
+
+/// A file that is written whole beside another before something else is done, and takes its place after that. Of two runs one waits for the other. What a run that
+/// was ended has left is there for the next.
+pub struct Beside {
+    place: Place,
+    next: PathBuf,
+    /// Open, and so locked.
+    file: File,
+    stays: bool,
+}
+
+impl Beside {
+    /// Takes hold of the place, and gives what was left there.
+    pub fn take(path: &Path) -> io::Result<(Self, Vec<u8>)> {
+        let place = Place::of(path)?;
+        let next = next_of(&place.path);
+        if is_link(&next) {
+            return Err(io::Error::other("a link stands where the new one is kept"));
+        }
+        let mut options = OpenOptions::new();
+        options.read(true).write(true).create(true).truncate(false);
+        let private = place.old.is_some();
+        options.mode(if private { 0o600 } else { 0o666 });
+        let mut file = loop {
+            let file = options.open(&next)?;
+            file.lock()?;
+            // Whoever held it before may have put it in its place, or removed it.
+            if is_at(&file, &next) {
+                break file;
+            }
+        };
+        let mut left = Vec::new();
+        file.read_to_end(&mut left)?;
+        let beside = Beside {
+            place,
+            next,
+            file,
+            stays: false,
+        };
+        Ok((beside, left))
+    }
+
+    /// Writes it, so that it lasts over a power cut.
+    pub fn write(&mut self, bytes: &[u8]) -> io::Result<()> {
+        if let Some(old) = &self.place.old {
+            take_after(&self.file, &old.found)?;
+        }
+        self.file.set_len(0)?;
+        self.file.write_all_at(bytes, 0)?;
+        self.file.sync_all()?;
+        self.place.sync_folder()
+    }
+
+    /// Puts it in its place; where that fails it stays beside it.
+    pub fn settle(mut self) -> io::Result<()> {
+        self.stays = true;
+        fs::rename(&self.next, &self.place.path)?;
+        self.place.sync_folder()
+    }
+
+    /// Leaves it for another run.
+    pub fn keep(mut self) {
+        self.stays = true;
+    }
+}
+
+impl Drop for Beside {
+    fn drop(&mut self) {
+        if !self.stays {
+            let _ = fs::remove_file(&self.next);
+        }
     }
 }
 
@@ -194,14 +300,6 @@ impl Temporary {
         self.renamed = true;
     }
 
-    fn take_after(&self, old: &Metadata) -> io::Result<()> {
-        // Only the superuser may give a file away; a member of its group may still give it the group.
-        if fchown(&self.file, Some(old.uid()), Some(old.gid())).is_err() {
-            let _ = fchown(&self.file, None, Some(old.gid()));
-        }
-        self.file.set_permissions(old.permissions())
-    }
-
     fn rename(mut self, path: &Path) -> io::Result<()> {
         fs::rename(&self.path, path)?;
         self.renamed = true;
@@ -215,6 +313,14 @@ impl Drop for Temporary {
             let _ = fs::remove_file(&self.path);
         }
     }
+}
+
+fn take_after(file: &File, old: &Metadata) -> io::Result<()> {
+    // Only the superuser may give a file away; a member of its group may still give it the group.
+    if fchown(file, Some(old.uid()), Some(old.gid())).is_err() {
+        let _ = fchown(file, None, Some(old.gid()));
+    }
+    file.set_permissions(old.permissions())
 }
 
 /// Removes what a run that was killed has left. One that is still being written is waited for; one that is somebody else's stays.

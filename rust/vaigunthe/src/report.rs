@@ -17,10 +17,15 @@ use crate::folder;
 use crate::outcome::{complain, Failure, Output, Status};
 use crate::progress::Progress;
 use crate::replace::{self, Identity, Written};
+use crate::source::Checked;
 use crate::target::Target;
 use crate::threads;
+use crate::{input, journal};
 use document::Contents;
 use limits::Limits;
+use marks::Marks;
+pub use marks::{Mark, Reason};
+use station::journal::{Direction, Journal, Unreplayed};
 use std::collections::HashSet;
 use std::ffi::{OsStr, OsString};
 use std::fs;
@@ -34,6 +39,7 @@ pub const REPORT: Command = Command {
     usage: &[
         "FILE... [--output OUT] [--full]",
         "FILE... --output-dir DIR [--full]",
+        "FILE --journal J [--output OUT] [--full]",
     ],
     operands: Operands::Several("FILE"),
     words: &[],
@@ -52,6 +58,11 @@ pub const REPORT: Command = Command {
             "--full",
             "all sheets, rows and texts; without it the first 100 sheets, the first 100 rows with cells of each, and the first 1,000 characters of a text",
         ),
+        Setting::with(
+            "--journal",
+            "J",
+            "mark the corrections that the journal J of the one FILE keeps: a table of them, and a frame around each corrected cell with what it held",
+        ),
     ],
     examples: &[
         (
@@ -65,6 +76,10 @@ pub const REPORT: Command = Command {
         (
             "vaigunthe report ride.bin session.bin --output-dir report --full",
             "a page for each, with all rows",
+        ),
+        (
+            "vaigunthe report session.bin --journal session.j --output report.html",
+            "a page that shows what was corrected",
         ),
     ],
     details: "\
@@ -97,18 +112,51 @@ fn run(arguments: &Arguments, out: &mut Output) -> Result<Status, Failure> {
         true => &Limits::FULL,
         false => &Limits::PARTS,
     };
-    match Target::of(arguments)? {
-        Target::Output => one_page(files, limits, |sections| {
+    let target = Target::of(arguments)?;
+    let marks = match (arguments.option("--journal"), files) {
+        (None, _) => Marks::default(),
+        (Some(journal), [file]) if file != input::STANDARD => match corrected(file, journal)? {
+            Some(marks) => marks,
+            None => return Ok(Status::Refused),
+        },
+        _ => {
+            return Err(Failure::usage(
+                "--journal goes with one file, which isn't standard input",
+            ))
+        }
+    };
+    let marks = &marks;
+    match target {
+        Target::Output => one_page(files, limits, marks, |sections| {
             Ok(document::write_sections(sections, out)?)
         }),
         Target::File(name) => {
             let path = Path::new(name);
             let place = Inputs::of(files).spare(path, replace::Place::of(path))?;
-            one_page(files, limits, |sections| {
+            one_page(files, limits, marks, |sections| {
                 put(path, &place, |out| document::write_sections(sections, out))
             })
         }
-        Target::Folder(name) => pages(files, limits, name),
+        Target::Folder(name) => pages(files, limits, marks, name),
+    }
+}
+
+/// The marks of a workbook's corrections; none of them where the page will say that the workbook is refused. A journal that is refused is told, and makes no page.
+fn corrected(file: &OsStr, name: &OsStr) -> Result<Option<Marks>, Failure> {
+    let mut stream = input::Stream::read(file)?;
+    let bytes = journal::read(name)?;
+    let kept = Journal::over(&bytes[..]);
+    let Ok(workbook) = station::check(&stream.bytes) else {
+        return Ok(Some(Marks::default()));
+    };
+    let names = journal::Names::of(&Checked::Alone(workbook));
+    // A replay judges the journal first; what it comes to is of no interest here.
+    match kept.replay(&mut stream.bytes, Direction::Backwards) {
+        Err(Unreplayed::Refused(refusal)) => {
+            complain(format_args!("{}: {refusal}", crate::text::Name(name)));
+            Ok(None)
+        }
+        _ => Ok(Some(Marks::of(journal::marks(&kept, &names)))),
     }
 }
 
@@ -116,13 +164,14 @@ fn run(arguments: &Arguments, out: &mut Output) -> Result<Status, Failure> {
 fn one_page(
     files: &[OsString],
     limits: &Limits,
+    marks: &Marks,
     write: impl FnOnce(Vec<Section>) -> Result<(), Failure>,
 ) -> Result<Status, Failure> {
     let level = if files.len() == 1 { 1 } else { 2 };
     let mut progress = Progress::on_standard_error("reporting", files.len());
     let work = |place: usize, file: &OsString| {
         let number = place + 1;
-        Section::of(file, Place { number, level }, limits)
+        Section::of(file, Place { number, level }, limits, marks)
     };
     let sections = threads::map(files, work, |done| progress.show(done));
     progress.clear();
@@ -151,7 +200,12 @@ const BATCH: usize = 256;
 const INDEX: &str = "index.html";
 
 /// A page for each file, and one that lists them.
-fn pages(files: &[OsString], limits: &Limits, name: &OsStr) -> Result<Status, Failure> {
+fn pages(
+    files: &[OsString],
+    limits: &Limits,
+    marks: &Marks,
+    name: &OsStr,
+) -> Result<Status, Failure> {
     let inputs = Inputs::of(files);
     let folder = Path::new(name);
     let mut progress = Progress::on_standard_error("reporting", files.len());
@@ -162,7 +216,7 @@ fn pages(files: &[OsString], limits: &Limits, name: &OsStr) -> Result<Status, Fa
             number: 1,
             level: 1,
         };
-        let work = |_, file: &OsString| Section::of(file, place, limits);
+        let work = |_, file: &OsString| Section::of(file, place, limits, marks);
         let sections = threads::map(batch, work, |done| progress.show(before + done));
         progress.clear();
         for (number, section) in (before + 1..).zip(sections) {

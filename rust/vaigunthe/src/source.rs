@@ -4,6 +4,7 @@ use crate::arguments::{Arguments, Setting};
 use crate::input::{Stream, STANDARD};
 use crate::outcome::{Failure, Status};
 use crate::replace::{Place, Written};
+use station::journal::{Direction, Journal, Unreplayed};
 use station::pair::{self, Pair, Refused, Whose};
 use station::{Cell, NewValue, Refusal, Sheet, Workbook};
 use std::ffi::OsString;
@@ -42,6 +43,13 @@ impl<'n> Source<'n> {
     pub fn read(arguments: &'n Arguments) -> Result<Self, Failure> {
         let template = template(arguments, &arguments.operands()[..1])?;
         let session = Stream::read(arguments.operand(0))?;
+        Ok(Source { template, session })
+    }
+
+    /// The same where the stream is another operand, and all of them are read.
+    pub fn read_operand(arguments: &'n Arguments, place: usize) -> Result<Self, Failure> {
+        let template = template(arguments, arguments.operands())?;
+        let session = Stream::read(arguments.operand(place))?;
         Ok(Source { template, session })
     }
 
@@ -118,6 +126,47 @@ impl<'n> Source<'n> {
         }
     }
 
+    /// Starts a journal of the corrections.
+    pub fn start_journal(&self) -> Result<Journal<Vec<u8>>, Refused> {
+        let session = &self.session.bytes;
+        match self.lent() {
+            None => Ok(Journal::started(session)?),
+            Some(template) => Journal::started_over(template, session),
+        }
+    }
+
+    /// Corrects a cell, with an entry in a journal.
+    pub fn correct_in(
+        &mut self,
+        journal: &mut Journal<Vec<u8>>,
+        (sheet, row, column): (u32, u32, u32),
+        value: NewValue,
+    ) -> Result<(), Refused> {
+        let session = &mut self.session.bytes;
+        match &self.template {
+            None => Ok(journal.correct(session, sheet, row, column, value)?),
+            Some(template) => {
+                journal.correct_over(&template.bytes, session, sheet, row, column, value)
+            }
+        }
+    }
+
+    /// Replays a journal.
+    pub fn replay(
+        &mut self,
+        journal: &Journal<impl AsRef<[u8]>>,
+        direction: Direction,
+    ) -> Result<u32, Unreplayed<Refused>> {
+        let session = &mut self.session.bytes;
+        replayed(self.template.as_ref(), session, journal, direction)
+    }
+
+    /// Whether a journal can be replayed; nothing changes.
+    pub fn replays(&self, journal: &Journal<impl AsRef<[u8]>>, direction: Direction) -> bool {
+        let mut copy = self.session.bytes.clone();
+        replayed(self.template.as_ref(), &mut copy, journal, direction).is_ok()
+    }
+
     /// One of the streams.
     pub fn stream(&self, whose: Whose) -> &Stream<'n> {
         match (whose, &self.template) {
@@ -167,6 +216,23 @@ impl<'n> Source<'n> {
             self.spare_template(place)?;
         }
         self.session.put_beside(path, place, write)
+    }
+}
+
+fn replayed(
+    template: Option<&Stream<'_>>,
+    session: &mut [u8],
+    journal: &Journal<impl AsRef<[u8]>>,
+    direction: Direction,
+) -> Result<u32, Unreplayed<Refused>> {
+    match template {
+        None => journal
+            .replay(session, direction)
+            .map_err(|unreplayed| match unreplayed {
+                Unreplayed::Refused(refusal) => Unreplayed::Refused(refusal.into()),
+                Unreplayed::Stopped { number, entry } => Unreplayed::Stopped { number, entry },
+            }),
+        Some(template) => journal.replay_over(&template.bytes, session, direction),
     }
 }
 

@@ -67,7 +67,7 @@ pub fn write_shown<W: Write>(shown: &Shown<'_>, out: &mut W) -> io::Result<()> {
 }
 
 /// Text as a field, in quotes where it needs them.
-fn field(units: &[u16]) -> String {
+pub fn field(units: &[u16]) -> String {
     let text = InCsv(units).to_string();
     if text.contains(['"', ',', '\r', '\n']) {
         format!("\"{}\"", text.replace('"', "\"\""))

@@ -86,7 +86,7 @@ fn write_cell<W: Write>(
     write!(out, "}}")
 }
 
-fn write_value<W: Write>(shown: &Shown<'_>, out: &mut W) -> io::Result<()> {
+pub fn write_value<W: Write>(shown: &Shown<'_>, out: &mut W) -> io::Result<()> {
     match *shown {
         Shown::Nothing => write!(out, "null"),
         Shown::Number(bits) if Number(bits).is_decimal() => write!(out, "{}", Number(bits)),

@@ -9,11 +9,11 @@ use std::io::{self, Write};
 
 /// Why a cell is marked.
 #[derive(Clone, Copy, Debug, PartialEq, Eq)]
-#[cfg_attr(not(test), allow(dead_code))]
 pub enum Reason {
     /// By the journal of corrections.
     Corrected,
     /// From another revision.
+    #[cfg_attr(not(test), allow(dead_code))]
     Differs,
 }
 
@@ -46,7 +46,6 @@ pub struct Marks {
 }
 
 impl Marks {
-    #[cfg_attr(not(test), allow(dead_code))]
     pub fn of(list: Vec<Mark>) -> Self {
         let mut by_sheet = BTreeMap::<_, Vec<_>>::new();
         for (place, mark) in list.iter().enumerate() {

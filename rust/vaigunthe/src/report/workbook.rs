@@ -65,14 +65,14 @@ pub struct Place {
 }
 
 impl Section {
-    pub fn of(file: &OsStr, place: Place, limits: &Limits) -> Self {
+    pub fn of(file: &OsStr, place: Place, limits: &Limits, marks: &Marks) -> Self {
         match Stream::read(file) {
-            Ok(stream) => Self::of_stream(&stream, place, limits),
+            Ok(stream) => Self::of_stream(&stream, place, limits, marks),
             Err(failure) => Self::unread(file, place, &failure),
         }
     }
 
-    fn of_stream(stream: &Stream<'_>, place: Place, limits: &Limits) -> Self {
+    fn of_stream(stream: &Stream<'_>, place: Place, limits: &Limits, marks: &Marks) -> Self {
         let mut notes = Vec::new();
         let (name, title) = (stream.called().to_string(), stream.title());
         let part = Part {
@@ -80,7 +80,7 @@ impl Section {
             name: &name,
             title: &title,
             place,
-            marks: &Marks::default(),
+            marks,
         };
         let (found, html) = match part.written(limits) {
             Ok(written) => written,
@@ -354,7 +354,8 @@ mod tests {
             number: 1,
             level: 1,
         };
-        let section = |limits: &Limits| Section::of_stream(&stream, place, limits);
+        let section =
+            |limits: &Limits| Section::of_stream(&stream, place, limits, &Marks::default());
         let (parts, full) = (section(&Limits::PARTS), section(&Limits::FULL));
         assert!(parts.html.len() < full.html.len() && full.notes.is_empty());
         for (bytes, enough) in [(full.html.len(), true), (full.html.len() - 1, false)] {

@@ -10,6 +10,7 @@ mod dates;
 mod export;
 mod fetch;
 mod grid;
+mod journal;
 mod judge;
 mod list;
 mod made;

@@ -723,7 +723,7 @@ fn progress() {
 #[test]
 fn no_promises() {
     let file: &Path = &case("cells.in");
-    for option in ["--template", "--journal", "--against"] {
+    for option in ["--template", "--against"] {
         run(words!["report", file, option, "x"]).fails("unknown option");
     }
 }

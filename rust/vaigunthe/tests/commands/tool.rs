@@ -175,7 +175,7 @@ pub fn words_of(number: u8) -> &'static str {
 }
 
 /// Words of the papers for each refusal, in the order of their numbers.
-pub const TOLD_BY: [(u8, &str); 19] = [
+pub const TOLD_BY: [(u8, &str); 21] = [
     (1, "longer than 16,777,216 bytes"),
     (2, "8,224 bytes"),
     (3, "first record"),
@@ -194,5 +194,7 @@ pub const TOLD_BY: [(u8, &str); 19] = [
     (16, "two or more cells have the address"),
     (17, "kind does not take this kind of value"),
     (18, "value does not fit"),
+    (19, "not hold what the journal's entry says"),
     (20, "outside the profile of a sensor's session"),
+    (21, "journal is cut or malformed"),
 ];

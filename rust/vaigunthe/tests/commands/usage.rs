@@ -3,12 +3,13 @@
 use crate::made;
 use crate::tool::{case, finish, run, run_with, Folder, TOLD_BY, TOOL};
 use crate::words;
+use second_reader::NewValue;
 use std::ffi::OsStr;
 use std::fs::{self, File};
 use std::io::Read;
 use std::process::{Command, Stdio};
 
-pub const COMMANDS: [&str; 14] = [
+pub const COMMANDS: [&str; 16] = [
     "check",
     "list",
     "sheets",
@@ -18,6 +19,8 @@ pub const COMMANDS: [&str; 14] = [
     "report",
     "export",
     "correct",
+    "journal",
+    "replay",
     "profile",
     "cadence",
     "help",
@@ -90,6 +93,19 @@ fn examples(page: &str) -> Vec<&str> {
         .collect()
 }
 
+/// A stream and its journal whose correction leaves this one.
+fn journalled(corrected: &[u8]) -> (Vec<u8>, Vec<u8>) {
+    let mut original = corrected.to_vec();
+    let number = NewValue::Number;
+    second_reader::correct(&mut original, 0, 0, 1, number(2.5)).expect("granted");
+    let (mut stream, mut journal) = (original.clone(), vec![0; 44]);
+    second_reader::start_journal(&stream, &mut journal).expect("a stream that passes");
+    let pi = number(std::f64::consts::PI);
+    second_reader::correct_journalled(&mut stream, &mut journal, 0, 0, 1, pi).expect("granted");
+    assert!(stream == corrected);
+    (original, journal)
+}
+
 /// Whoever copies an example gets an answer.
 #[test]
 fn examples_are_right() {
@@ -108,6 +124,9 @@ fn examples_are_right() {
                 let stream = fs::read(case(&format!("{name}.in"))).expect("an input");
                 folder.put(format!("{name}.bin"), &stream);
             }
+            let (original, journal) = journalled(&stream);
+            folder.put("original.bin", &original);
+            folder.put("session.j", &journal);
             fs::create_dir(folder.at("sessions")).expect("a folder");
             folder.put("sessions/one.bin", &stream);
             folder.put("sessions/bad.bin", &stream[1..]);

@@ -1,0 +1,9 @@
+pub mod Aims
+pub mod Right
+pub mod Unique
+pub mod Places
+pub mod Steps
+pub mod Trip
+pub mod Made
+pub mod Both
+pub mod Exact

@@ -1,0 +1,1 @@
+// Theorems on a journal and its replay. No code.
