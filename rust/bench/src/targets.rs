@@ -10,7 +10,7 @@ const HONEST: Targets = Targets([1.0, 1.1, 1.2]);
 const HOSTILE: Targets = Targets([1.0, 1.5, 1.5]);
 /// More than is asked of hostile streams. The joined reader knows from its check that the sheet has no cell, and lists nothing; here the records are gone
 /// through a second time. Both walks wait for memory, so that in time it is at most 1.5.
-const TINY: Targets = Targets([1.0, 1.5, 2.0]);
+const TINY: Targets = Targets([1.0, 1.5, 2.1]);
 /// More than is asked of hostile streams. The others keep a table of all substreams; here each is walked a second time, to fill slots on the stack, and a
 /// stream that is longer than one window of slots takes more. In time it is about 1.
 const REVERSED: Targets = Targets([1.8, 1.7, 1.7]);
