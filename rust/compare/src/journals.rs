@@ -1,6 +1,6 @@
 //! The journal of corrections and its replay, of one stream and over a pair: every answer, with every byte of stream and journal.
 
-use super::{values, Comparison, Counts};
+use super::{values, Comparison, Counts, Wanted};
 use second_reader::{PairRefusal, PairUnreplayed, Refusal, Unreplayed, Whose};
 use station::journal::{self, Journal, ENTRY};
 use station::pair;
@@ -173,7 +173,7 @@ pub struct Met {
 }
 
 impl Met {
-    fn wanted(&self) -> Vec<(String, u64)> {
+    pub fn wanted(&self) -> Wanted {
         let mut wanted = vec![
             ("journals started".to_string(), self.starts),
             ("journals refused 12".to_string(), self.starts_refused[12]),
@@ -206,16 +206,6 @@ impl Met {
             }
         }
         wanted
-    }
-
-    pub fn print(&self) {
-        for (what, times) in self.wanted() {
-            println!("{what} {times}");
-        }
-    }
-
-    pub fn rare(&self, least: u64) -> bool {
-        self.wanted().iter().any(|&(_, times)| times < least)
     }
 }
 

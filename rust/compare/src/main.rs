@@ -32,6 +32,9 @@ fn theirs<A>(answer: Result<A, second_reader::Refusal>) -> Outcome<A> {
     answer.map_err(|refusal| (refusal.number, refusal.offset))
 }
 
+/// What is to be met as often as each refusal, and how often it was.
+type Wanted = Vec<(String, u64)>;
+
 /// How often the answers were met that are counted by themselves.
 #[derive(Default)]
 struct Met {
@@ -42,18 +45,11 @@ struct Met {
 }
 
 impl Met {
-    fn print(&self) {
-        self.places.print();
-        self.pairs.print();
-        self.orders.print();
-        self.journals.print();
-    }
-
-    fn rare(&self, least: u64) -> bool {
-        self.places.rare(least)
-            || self.pairs.rare(least)
-            || self.orders.rare(least)
-            || self.journals.rare(least)
+    fn wanted(&self) -> Wanted {
+        let places = self.places.wanted().into_iter();
+        let pairs = places.chain(self.pairs.wanted());
+        let orders = pairs.chain(self.orders.wanted());
+        orders.chain(self.journals.wanted()).collect()
     }
 }
 
@@ -496,7 +492,10 @@ fn main() -> ExitCode {
             comparison.counts[usize::from(number)]
         );
     }
-    comparison.met.print();
+    let wanted = comparison.met.wanted();
+    for (what, times) in &wanted {
+        println!("{what} {times}");
+    }
     println!(
         "{count} seeds from {first}, {} differences, {:.1} s",
         comparison.differences,
@@ -505,7 +504,7 @@ fn main() -> ExitCode {
     let met = |number: u8| comparison.counts[usize::from(number)];
     let rare = station::meanings().any(|(number, _)| met(number) < LEAST)
         || met(0) < LEAST
-        || comparison.met.rare(LEAST);
+        || wanted.iter().any(|(_, times)| *times < LEAST);
     if comparison.differences > 0 || (whole && rare) {
         return ExitCode::from(1);
     }

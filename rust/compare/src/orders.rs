@@ -1,6 +1,6 @@
 //! Independent corrections: two of one stream, alone or over a pair, in both orders.
 
-use super::{values, Comparison};
+use super::{values, Comparison, Wanted};
 use station::pair;
 use streams::Correction;
 
@@ -23,7 +23,7 @@ pub struct Met {
 }
 
 impl Met {
-    fn wanted(&self) -> [(&'static str, u64); 7] {
+    pub fn wanted(&self) -> Wanted {
         [
             ("two cells, both granted", self.apart_granted),
             ("two neighbours, both granted", self.neighbours_granted),
@@ -36,16 +36,8 @@ impl Met {
             ),
             ("one cell twice, the first refused", self.same_first_refused),
         ]
-    }
-
-    pub fn print(&self) {
-        for (what, times) in self.wanted() {
-            println!("{what} {times}");
-        }
-    }
-
-    pub fn rare(&self, least: u64) -> bool {
-        self.wanted().iter().any(|&(_, times)| times < least)
+        .map(|(what, times)| (what.to_string(), times))
+        .into()
     }
 
     fn count(&mut self, [first, second]: [Correction; 2], granted: [bool; 2]) {

@@ -1,6 +1,6 @@
 //! One template, many sessions: every question over made pairs, with whose the answer is and every lent byte, unit and number.
 
-use super::{of_ours, of_theirs, values, Comparison, Counts};
+use super::{of_ours, of_theirs, values, Comparison, Counts, Wanted};
 use second_reader::{PairRefusal, Whose};
 use station::pair;
 use streams::Pair;
@@ -59,7 +59,7 @@ impl Met {
     }
 
     /// What is to be met: the check's refusals of each stream, and those of the questions.
-    fn wanted(&self) -> Vec<(String, u64)> {
+    pub fn wanted(&self) -> Wanted {
         let mut wanted = vec![("pairs answered".to_string(), self.question[0])];
         for number in 1..=10 {
             let (template, session) = (self.template[number], self.session[number]);
@@ -75,16 +75,6 @@ impl Met {
         wanted.push(("corrections aimed at the template".to_string(), self.aimed));
         wanted.push(("tables over pairs refused 12".to_string(), self.short));
         wanted
-    }
-
-    pub fn print(&self) {
-        for (what, times) in self.wanted() {
-            println!("{what} {times}");
-        }
-    }
-
-    pub fn rare(&self, least: u64) -> bool {
-        self.wanted().iter().any(|&(_, times)| times < least)
     }
 }
 

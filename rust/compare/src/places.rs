@@ -1,6 +1,6 @@
 //! String places kept in a table: filling, and fetching through tables right and made up.
 
-use super::{ours, theirs, Comparison, Counts};
+use super::{ours, theirs, Comparison, Counts, Wanted};
 
 /// What stands in numbers and units before a question.
 const NUMBER: u32 = 0x5555_5555;
@@ -18,7 +18,7 @@ pub struct Met {
 
 impl Met {
     /// What is to be met of each: `fill` refuses all that the check refuses, and 12; a fetch through a table only 11 and 12.
-    fn wanted(&self) -> [(&'static str, u64); 5] {
+    pub fn wanted(&self) -> Wanted {
         [
             ("tables filled", self.fill[0]),
             ("tables refused 12", self.fill[12]),
@@ -26,16 +26,8 @@ impl Met {
             ("fetches through refused 11", self.through[11]),
             ("fetches through refused 12", self.through[12]),
         ]
-    }
-
-    pub fn print(&self) {
-        for (what, times) in self.wanted() {
-            println!("{what} {times}");
-        }
-    }
-
-    pub fn rare(&self, least: u64) -> bool {
-        self.wanted().iter().any(|&(_, times)| times < least)
+        .map(|(what, times)| (what.to_string(), times))
+        .into()
     }
 }
 
