@@ -88,6 +88,7 @@ fn field_at(id: u16, at: usize, k: usize) -> Target
 }
 
 // Whether a row of so many cells from a column on has the address.
+// Only this crate and `celltext` call it, each for the cells of one record, of which there are at most 256.
 pub fn in_row(here: u16, first: u16, count: u16, row: u32, column: u32) -> bool
     requires { ⌜ count ≤ 256 ⌝ }
     ensures { λ r. ⌜ r ≡ inRow here first count row column ⌝ }
@@ -116,6 +117,7 @@ fn with_one(found: Target, one: Target) -> Target
 }
 
 // What was found, with the cell of the address in this row, if it has one.
+// Only this crate and `lookup` call it, each for the cells of one record, at most 256, of a stream that is not too long.
 pub fn met(
     found: Target,
     id: u16,
@@ -204,6 +206,7 @@ fn no_sheet(sheets: usize, n: u32) -> u8
 }
 
 // The one cell of an address in a sheet of a stream that passes, with `unique` strings, under a template of so many sheets.
+// Only this crate and those above it call it, each after the check.
 pub fn aim_in(s: &[u8], unique: u32, sheets: usize, sheet: u32, row: u32, column: u32) -> Aim
     requires { ⌜ length (now s) ≤ 16777216 ⌝ }
     ensures { λ r. ⌜ r ≡ aimIn (now (s .entry)) unique sheets sheet row column ⌝ }
@@ -228,6 +231,7 @@ pub fn aim_in(s: &[u8], unique: u32, sheets: usize, sheet: u32, row: u32, column
 
 // Correct a cell of a stream that passes, with `unique` strings, under a template of so many sheets: the value goes into its value field, and no other byte
 // changes; on a refusal none does.
+// Only this crate and `pair` call it, each after the check.
 pub fn correct_in(
     s: &mut [u8],
     unique: u32,

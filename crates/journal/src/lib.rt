@@ -18,6 +18,7 @@ use value::Field;
 use workbook::Checked;
 
 // Start a journal for a stream that passes, with `unique` strings.
+// Only this crate and `pairjournal` call it, each after the check.
 pub fn start_in(s: &[u8], j: &mut [u8], unique: u32) -> Answer
     requires { ⌜ length (now s) ≤ 16777216 ⌝ }
     ensures { λ r. ⌜ r ≡ startAnswer (startIn unique (length (now (j .entry)))) ⌝ }
@@ -152,6 +153,7 @@ fn write_both(
 }
 
 // Correct a cell of a stream that passes, with `unique` strings, and write the entry; `sheets` is how many sheets the template has.
+// Only this crate and `pairjournal` call it, each after the check.
 pub fn correct_in(
     s: &mut [u8],
     j: &mut [u8],

@@ -133,6 +133,7 @@ fn put_all(s: &[u8], p: usize, n: u32, table: &mut [u32])
 }
 
 // Fill the table for a stream that passed: its SST is at p and has n strings.
+// Only this crate and `pairtexts` call it, each after the check.
 pub fn fill_checked(s: &[u8], p: usize, n: u32, table: &mut [u32]) -> Filled
     requires { ⌜ (length (now s) ≤ 16777216) × TableAt (now s) p n ⌝ }
     ensures { λ r. ⌜ r ≡ filledOf (length (now (table .entry))) (placesAt (now (s .entry)) p) ⌝ }

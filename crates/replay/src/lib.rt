@@ -164,6 +164,7 @@ fn on_undo(
 }
 
 // The cell that the entry at `at` names.
+// Only `rerun` calls it, after the check, for an entry that lies in the journal.
 pub fn entry_aim(s: &[u8], j: &[u8], at: usize, unique: u32, sheets: usize) -> Aim
     requires { ⌜ (at + 28 ≤ length (now j)) × (length (now s) ≤ 16777216) ⌝ }
     ensures { λ r. ⌜ r ≡ entryAimed unique sheets (entryIn (now (j .entry)) at) (now (s .entry)) ⌝ }
@@ -186,6 +187,7 @@ fn plan_at(j: &[u8], at: usize, kind: Field, unique: u32) -> Plan
 }
 
 // The entry at `at` made again, where `aim` is the cell that it names.
+// Only `rerun` calls it, after the check, for an entry that lies in the journal, with its cell.
 pub fn make_aimed(s: &[u8], j: &[u8], at: usize, unique: u32, sheets: usize, aim: Aim) -> Step
     requires { ⌜ (at + 28 ≤ length (now j)) × (aim ≡ entryAimed unique sheets (entryIn (now j) at) (now s)) × AimWithin (length (now s)) aim ⌝ }
     ensures { λ r. ⌜ stepIs r ≡ makeOf unique sheets (entryIn (now (j .entry)) at) (now (s .entry)) ⌝ }
@@ -208,6 +210,7 @@ pub fn make_aimed(s: &[u8], j: &[u8], at: usize, unique: u32, sheets: usize, aim
 }
 
 // The entry undone, where `aim` is the cell that it names.
+// Only `rerun` calls it, after the check, for an entry that lies in the journal, with its cell.
 pub fn undo_aimed(s: &[u8], j: &[u8], at: usize, unique: u32, sheets: usize, aim: Aim) -> Step
     requires { ⌜ (at + 28 ≤ length (now j)) × (aim ≡ entryAimed unique sheets (entryIn (now j) at) (now s)) × AimWithin (length (now s)) aim ⌝ }
     ensures { λ r. ⌜ stepIs r ≡ undoOf unique sheets (entryIn (now (j .entry)) at) (now (s .entry)) ⌝ }
