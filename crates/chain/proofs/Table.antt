@@ -3,26 +3,20 @@ use Prim.Native.Nat.{ℕ, zero, suc, _-_}
 use mathlib.Core.Path.{_≡_, refl, ap, _∙_, subst}
 use mathlib.Core.List.{List}
 use mathlib.Core.Bool.{Bool, true, false}
-use lib.ListN.{length}
-use lib.Dec.{ltb}
-use borrow.Author.Tests.{eqb-true}
-use Rattle.walk.proofs.Choice.{never, pick-any, pick-by}
+use Rattle.walk.proofs.Choice.{pick-any, pick-by}
 use Rattle.le.specs.Bytes.{byteAt, u16At}
 use Rattle.record.specs.declared.Header.{Header}
 use Rattle.record.specs.declared.Header.the-variants.{Record, Cut, End}
 use Rattle.record.specs.Record.{headerAt}
 use Rattle.record.proofs.Laws.{whole}
 use Rattle.segments.specs.declared.Cursor.{Cursor}
+use Rattle.segments.proofs.Local.{continue-type}
 use Rattle.segments.specs.Segments.{Got, got, refused, then, push, on as onward, continues, segmentOf, nextSegment, filled, need, widthOf, enter, room, items}
 use Rattle.strings.specs.declared.Strings.{Strings}
 use Rattle.strings.specs.declared.Strings.the-variants as strings
 use Rattle.strings.specs.Table.{head, rest, stringAt, nextPlace, strings, first, tableOf, answerOf}
 use Rattle.chain.specs.Chain.{Chain, here, on, Over, Reach}
 use Rattle.chain.proofs.Chain.{chain-trans, over}
-
-continue-type : (s : List ℕ) (p : ℕ) → continues s p ≡ true → u16At s p ≡ 0x003C
-unfolding continues
-continue-type s p h = pick-by (λ (b : Bool). b ≡ true → u16At s p ≡ 0x003C) (ltb (length s - p) 4) (λ _ i. never (cc)) (λ _ i. eqb-true (u16At s p) 0x003C i) h
 
 -- a CONTINUE is a step
 module _ (s : List ℕ) (Step : ℕ → ℕ → Type 0) (continue : (x z e : ℕ) → headerAt s x ≡ Record 0x003C z e → Step x e) where
@@ -101,7 +95,7 @@ module _ (s : List ℕ) (Step : ℕ → ℕ → Type 0) (continue : (x z e : ℕ
       runs-then c (nextPlace s c) _ (runs-place c) (λ v d.
       runs-then d (stringAt s d) _ (runs-string d) (λ us e. runs-push e d (strings s n e) (runs-strings n e)))
 
-  runs-table : (p e : ℕ) → Runs (first p e) (tableOf s p e)
+  pub runs-table : (p e : ℕ) → Runs (first p e) (tableOf s p e)
   unfolding tableOf
   runs-table p e =
       pick-any (Runs (first p e)) _ tt

@@ -1,4 +1,4 @@
--- A text result stands in whole records, one after the other, that hold no cell and open or close no substream. Assumes nothing.
+-- A text result stands in whole records, one after the other, that hold no cell, open or close no substream and are no INDEX. Assumes nothing.
 use Prim.Native.Nat.{ℕ, _+_, _-_}
 use mathlib.Core.Path.{_≡_, refl, sym, ap, _∙_, subst}
 use mathlib.Core.List.{List}
@@ -25,23 +25,23 @@ use Rattle.chain.proofs.Table.{Runs, runs-on, runs-then, runs-filled, r
 
 -- ---- the types of its records
 module _ (s : List ℕ) (x t z e : ℕ) (h : headerAt s x ≡ Record t z e) where
-  plain-of : (k : ℕ) → t ≡ k → shapeOf k ≡ OTHER → (k ≡ 0x0809 → ⊥) → (k ≡ 0x000A → ⊥) → Plain s x e
-  plain-of k q o b f = record { over = record { type = t; size = z; is = h }; other = ap shapeOf q ∙ o; no-bof = λ i. b (sym q ∙ i); no-eof = λ i. f (sym q ∙ i) }
+  plain-of : (k : ℕ) → t ≡ k → shapeOf k ≡ OTHER → (k ≡ 0x0809 → ⊥) → (k ≡ 0x000A → ⊥) → (k ≡ 0x020B → ⊥) → Plain s x e
+  plain-of k q o b f n = record { over = record { type = t; size = z; is = h }; other = ap shapeOf q ∙ o; no-bof = λ i. b (sym q ∙ i); no-eof = λ i. f (sym q ∙ i); no-index = λ i. n (sym q ∙ i) }
 
   plain-continue : t ≡ 0x003C → Plain s x e
   unfolding shapeOf pick
-  plain-continue q = plain-of 0x003C q refl (λ i. omega arith) (λ i. omega arith)
+  plain-continue q = plain-of 0x003C q refl (λ i. omega arith) (λ i. omega arith) (λ i. omega arith)
 
   plain-string : t ≡ 0x0207 → Plain s x e
   unfolding shapeOf pick
-  plain-string q = plain-of 0x0207 q refl (λ i. omega arith) (λ i. omega arith)
+  plain-string q = plain-of 0x0207 q refl (λ i. omega arith) (λ i. omega arith) (λ i. omega arith)
 
   plain-between : between t ≡ true → Plain s x e
   unfolding between shapeOf pick
   plain-between q =
-      pick-by If (eqb t 0x04BC) (λ i _. plain-of 0x04BC (eqb-true t 0x04BC i) refl (λ j. omega arith) (λ j. omega arith))
-      (λ _. pick-by If (eqb t 0x0221) (λ i _. plain-of 0x0221 (eqb-true t 0x0221 i) refl (λ j. omega arith) (λ j. omega arith))
-      (λ _ i. plain-of 0x0236 (eqb-true t 0x0236 i) refl (λ j. omega arith) (λ j. omega arith))) q
+      pick-by If (eqb t 0x04BC) (λ i _. plain-of 0x04BC (eqb-true t 0x04BC i) refl (λ j. omega arith) (λ j. omega arith) (λ j. omega arith))
+      (λ _. pick-by If (eqb t 0x0221) (λ i _. plain-of 0x0221 (eqb-true t 0x0221 i) refl (λ j. omega arith) (λ j. omega arith) (λ j. omega arith))
+      (λ _ i. plain-of 0x0236 (eqb-true t 0x0236 i) refl (λ j. omega arith) (λ j. omega arith) (λ j. omega arith))) q
     where
       If : Bool → Type 0
       If b = b ≡ true → Plain s x e

@@ -20,12 +20,13 @@ pub record Over (s : List ℕ) (x e : ℕ) : Type 0 where
   pub size : ℕ
   pub is : headerAt s x ≡ Record type size e
 
--- one that holds no cell, and opens or closes no substream
+-- one that holds no cell, opens or closes no substream, and is no INDEX
 pub record Plain (s : List ℕ) (x e : ℕ) : Type 0 where
   pub over : Over s x e
   pub other : shapeOf (over .type) ≡ OTHER
   pub no-bof : over .type ≡ 0x0809 → ⊥
   pub no-eof : over .type ≡ 0x000A → ⊥
+  pub no-index : over .type ≡ 0x020B → ⊥
 
 -- y is reached from x by stepping over whole records
 abbrev pub Reach : List ℕ → ℕ → ℕ → Type 0

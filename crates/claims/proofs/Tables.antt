@@ -57,7 +57,7 @@ module _ (s s′ : List ℕ) (len : length s ≡ length s′) (to : ℕ) (same :
       ∙ ap (λ (n : ℕ). placesOf s′ p (p + 4 + n)) (sym size)
       ∙ ap (λ (x : Got (List Cursor)). listOf x)
       (table-same s s′ len p (p + 4 + u16At s (p + 2)) (omega arith) (t .places) (t .last) is (λ k i j. same k (omega arith) (omega arith))
-      (continues-kept s s′ len 0 (to + 2) same (t .last .end) (omega arith) (omega arith)) ∙ sym is)
+      (continues-kept s s′ 0 (to + 2) same len (t .last .end) (omega arith) (omega arith)) ∙ sym is)
       ∙ sym (places-some s p (omega arith))
 
   positive : (p : ℕ) → (p ≡ 0) ⊎ (1 ≤ p)

@@ -1,7 +1,7 @@
 -- The laws of `headerAt`: what it is in each case, what a whole record says, and that it depends on its four bytes and the stream's length alone.
 -- Assumes nothing.
 use Prim.Native.Nat.{ℕ, _+_, _-_, _≤_, _<_}
-use mathlib.Core.Path.{_≡_, refl, sym, _∙_}
+use mathlib.Core.Path.{_≡_, refl, sym, ap, _∙_}
 use mathlib.Core.List.{List}
 use mathlib.Core.Bool.{Bool, true, false}
 use native.Mathlib.Omega.{arith}
@@ -91,3 +91,11 @@ module _ (s s′ : List ℕ) (len : length s ≡ length s′) (at : ℕ) where
       let k : u16At s at ≡ u16At s′ at = num-same s s′ 2 at (λ j i l. h j (omega arith) (omega arith)) in
       let z : u16At s (at + 2) ≡ u16At s′ (at + 2) = num-same s s′ 2 (at + 2) (λ j i l. h j (omega arith) (omega arith)) in
       rw (len, k, z)
+
+-- a whole record is the same in another stream that has its header and is as long
+pub header-alike : (s s′ : List ℕ) (at k z e : ℕ) → headerAt s at ≡ Record k z e → Same s s′ at (at + 4) → e ≤ length s′ → headerAt s′ at ≡ Record k z e
+header-alike s s′ at k z e h same fits =
+    let w = whole s at k z e h in
+    let size : z ≡ u16At s′ (at + 2) = w .size ∙ num-same s s′ 2 (at + 2) (λ j i l. same j (omega arith) (omega arith)) in
+    let kind : k ≡ u16At s′ at = w .kind ∙ num-same s s′ 2 at (λ j i l. same j (omega arith) (omega arith)) in
+    sym (header-whole s′ at z z size refl (omega arith) k kind (w .small) (omega arith)) ∙ ap (Record k z) (sym (w .end))

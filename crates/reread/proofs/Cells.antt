@@ -99,7 +99,7 @@ module _ {s s′ : List ℕ} {a t z e k : ℕ} {v : CellValue} (c : Corrected s 
 
     -- its text result stands in plain records, and so not in the one that was written
     text-same-by : (x : Got (List ℕ)) → textOf s (i .at) (i .end) ≡ x → Passes x → textOf s′ (i .at) (i .end) ≡ textOf s (i .at) (i .end)
-    text-same-by (got us g) q p = text-same s s′ (c .size) (i .at) (i .end) us g q (by (plain-beside s a t z e (c .whole) (no-count s t a z k (c .below)) (near-reach (reach-one s (i .header)) near-cell) (text-chain s (i .at) (i .end) us g q))) ∙ sym q
+    text-same-by (got us g) q p = text-same s (i .at) (i .end) us g q s′ (c .size) (by (plain-beside s a t z e (c .whole) (no-count s t a z k (c .below)) (near-reach (reach-one s (i .header)) near-cell) (text-chain s (i .at) (i .end) us g q))) ∙ sym q
       where
         by : (g .end ≤ a) ⊎ (e ≤ i .end) → Same s s′ (i .end) (g .end + 2)
         by (inl l) = let w = inside c in same-before c (i .end) (g .end + 2) (omega arith)

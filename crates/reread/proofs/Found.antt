@@ -82,7 +82,7 @@ has-at row column (c ∷ l) = go (addressed row column c) refl (has-at row colum
     go false q h = h
 
 -- ---- the cells of a sheet stand in its substream
-worksheet : (k : ℕ) → bofKind k ≡ 1 → k ≡ 0x0010
+pub worksheet : (k : ℕ) → bofKind k ≡ 1 → k ≡ 0x0010
 unfolding bofKind
 worksheet k h =
     pick-by (λ (n : ℕ). n ≡ 1 → k ≡ 0x0010) (eqb k 0x0010) (λ q _. eqb-true k 0x0010 q)

@@ -130,7 +130,7 @@ module _ (s s′ : List ℕ) (len : length s ≡ length s′) (to : ℕ) (same :
       ap (λ (n : ℕ). pick (eqb p 0) [] (stringsOf s′ p (p + 4 + n))) (sym size)
       ∙ ap (λ (x : List (List ℕ)). pick (eqb p 0) [] x)
       (sym (strings-same s s′ len p (p + 4 + u16At s (p + 2)) (omega arith) (t .places) (t .last) is (λ k i j. same k (omega arith) (omega arith))
-      (continues-kept s s′ len 0 (to + 2) same (t .last .end) (omega arith) (omega arith))))
+      (continues-kept s s′ 0 (to + 2) same len (t .last .end) (omega arith) (omega arith))))
 
   pub strings-kept : (g : Globals) → g .at ≡ to → Tabled s g → stringsAt s′ (g .table) ≡ stringsAt s (g .table)
   unfolding stringsAt

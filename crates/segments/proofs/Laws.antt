@@ -102,7 +102,7 @@ module _ (n : ℕ) (s : List ℕ) (c d : Cursor) (m : Moved) (is : moved m ≡ n
 pub ruleset next-laws = (next-below, next-fits, next-flag, next-low)
 
 -- ---- items that stand in one segment: the law over the width
-abbrev append : {A : Type 0} → List A → Got (List A) → Got (List A)
+abbrev pub append : {A : Type 0} → List A → Got (List A) → Got (List A)
 append xs (got ys c) = got (xs ++ ys) c
 append xs (refused n o) = refused n o
 
@@ -127,7 +127,7 @@ on-is c i e = ap (λ (k : ℕ). record { seg = c .seg; at = k; end = c .end }) e
 
 module _ (n : ℕ) (s : List ℕ) (f : Bool) where
   -- k items that fit in what is left of the segment are read there
-  items-fit : (w k m : ℕ) (c : Cursor) → 1 ≤ w → k * w ≤ c .end - c .at → items n s f w (k + m) c ≡ append (nums s w k (c .at)) (items n s f w m (on c (k * w)))
+  pub items-fit : (w k m : ℕ) (c : Cursor) → 1 ≤ w → k * w ≤ c .end - c .at → items n s f w (k + m) c ≡ append (nums s w k (c .at)) (items n s f w m (on c (k * w)))
   unfolding nums items
   items-fit w zero m c i j =
       let z = zero-mul w in
@@ -140,18 +140,18 @@ module _ (n : ℕ) (s : List ℕ) (f : Bool) where
       ∙ append-push (numAt s w (c .at)) (nums s w k (c .at + w)) (items n s f w m (on (on c w) (k * w)))
       ∙ ap (λ (d : Cursor). append (nums s w (suc k) (c .at)) (items n s f w m d)) (on-is (on (on c w) (k * w)) (c .at + suc k * w) (omega arith))
 
-  items-room : (w k : ℕ) (c : Cursor) (v : ℕ) (d : Cursor) → 1 ≤ w → Inside s c → room n s f w c ≡ got v d → items n s f w (suc k) c ≡ items n s f v (suc k) d
+  pub items-room : (w k : ℕ) (c : Cursor) (v : ℕ) (d : Cursor) → 1 ≤ w → Inside s c → room n s f w c ≡ got v d → items n s f w (suc k) c ≡ items n s f v (suc k) d
   unfolding items
   items-room w k c v d i inside e =
       let r = room-item n s f w c v d inside e in
       ap (λ (x : Got ℕ). then x (λ v d. push (numAt s v (d .at)) (items n s f v k (on d v)))) (e ∙ sym (room-here n s f v d (r .some i) (r .here)))
 
-  items-refused : (w k : ℕ) (c : Cursor) (a b : ℕ) → room n s f w c ≡ refused a b → items n s f w (suc k) c ≡ refused a b
+  pub items-refused : (w k : ℕ) (c : Cursor) (a b : ℕ) → room n s f w c ≡ refused a b → items n s f w (suc k) c ≡ refused a b
   unfolding items
   items-refused w k c a b e = ap (λ (x : Got ℕ). then x (λ v d. push (numAt s v (d .at)) (items n s f v k (on d v)))) e
 
   -- one turn of a walk over items: room, then k of the m items, of b bytes together
-  items-turn : (w m : ℕ) (c : Cursor) (v : ℕ) (d : Cursor) (k b : ℕ) → 1 ≤ w → Inside s c → room n s f w c ≡ got v d → Fits (d .end - d .at) v m k b
+  pub items-turn : (w m : ℕ) (c : Cursor) (v : ℕ) (d : Cursor) (k b : ℕ) → 1 ≤ w → Inside s c → room n s f w c ≡ got v d → Fits (d .end - d .at) v m k b
       → items n s f w m c ≡ append (nums s v k (d .at)) (items n s f v (m - k) (on d b))
   items-turn w m c v d k b i inside e fit =
       let r = room-item n s f w c v d inside e in
@@ -279,16 +279,16 @@ stored-append l i (x ∷ xs) ys =
     let e : suc i + length xs ≡ i + suc (length xs) = omega arith in
     stored-append (set l i x) (suc i) xs ys ∙ ap (λ (k : ℕ). stored (stored (set l i x) (suc i) xs) k ys) e
 
-nums-length : (s : List ℕ) (w k p : ℕ) → length (nums s w k p) ≡ k
+pub nums-length : (s : List ℕ) (w k p : ℕ) → length (nums s w k p) ≡ k
 unfolding nums
 nums-length s w zero p = refl
 nums-length s w (suc k) p = ap suc (nums-length s w k (p + w))
 
-list-append : {A : Type 0} (xs : List A) (y : Got (List A)) → Passes (append xs y) → listOf (append xs y) ≡ xs ++ listOf y
+pub list-append : {A : Type 0} (xs : List A) (y : Got (List A)) → Passes (append xs y) → listOf (append xs y) ≡ xs ++ listOf y
 list-append xs (got ys c) h = refl
 list-append xs (refused n o) h = absurd h
 
-passes-append : {A : Type 0} (xs : List A) (y : Got (List A)) → Passes (append xs y) → Passes y
+pub passes-append : {A : Type 0} (xs : List A) (y : Got (List A)) → Passes (append xs y) → Passes y
 passes-append xs (got ys c) h = tt
 passes-append xs (refused n o) h = absurd h
 

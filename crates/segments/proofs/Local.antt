@@ -6,15 +6,16 @@ use mathlib.Core.List.{List, []}
 use mathlib.Core.Bool.{Bool, true, false}
 use native.Mathlib.Omega.{arith}
 use lib.ListN.{length}
+use lib.Dec.{ltb, eqb}
 use borrow.Author.Tests.{ltb-false, eqb-true, eqb-false}
 use Rattle.walk.specs.Choice.{pick}
-use Rattle.walk.proofs.Choice.{pick-any, pick-by, pick-false, pick-nlt, pick-eq, pick-ne}
-use Rattle.le.specs.Bytes.{byteAt, numAt}
+use Rattle.walk.proofs.Choice.{never, pick-any, pick-by, pick-true, pick-false, pick-nlt, pick-eq, pick-ne}
+use Rattle.le.specs.Bytes.{byteAt, numAt, u16At}
 use Rattle.le.proofs.Laws.{Same, num-same}
 use Rattle.record.specs.declared.Header.{Header}
 use Rattle.record.specs.declared.Header.the-variants.{Record, Cut, End}
 use Rattle.record.specs.Record.{headerAt}
-use Rattle.record.proofs.Laws.{whole, header-same}
+use Rattle.record.proofs.Laws.{whole, header-alike}
 use Rattle.segments.specs.declared.Cursor.{Cursor}
 use Rattle.segments.specs.Segments.{Got, got, refused, then, push, on, continues, segmentOf, nextSegment, filled, need, widthOf, enter, room, items}
 use Rattle.segments.specs.Parts.{Inside}
@@ -155,24 +156,51 @@ reads-need s b n w c inside = reads-same s b c (need n w c) (go (need n w c) ref
     go (got v d) e = let h = need-is n w c v d e in subst (λ (z : Cursor). Within s c (got v z)) (sym (h .same)) (inside, omega arith, omega arith)
     go (refused m o) e = tt
 
--- ---- two streams of one length, with the same bytes from a up to b
-module _ (s s′ : List ℕ) (len : length s ≡ length s′) (a b : ℕ) (same : Same s s′ a b) where
+-- ---- two streams with the same bytes from a up to b
+pub continue-type : (s : List ℕ) (p : ℕ) → continues s p ≡ true → u16At s p ≡ 0x003C
+unfolding continues
+continue-type s p h = pick-by (λ (b : Bool). b ≡ true → u16At s p ≡ 0x003C) (ltb (length s - p) 4) (λ _ i. never (cc)) (λ _ i. eqb-true (u16At s p) 0x003C i) h
+
+module _ (s s′ : List ℕ) (a b : ℕ) (same : Same s s′ a b) where
   pub num-kept : (w p : ℕ) → a ≤ p → p + w ≤ b → numAt s w p ≡ numAt s′ w p
   num-kept w p l m = num-same s s′ w p (λ k i j. same k (omega arith) (omega arith))
 
-  pub continues-kept : (p : ℕ) → a ≤ p → p + 2 ≤ b → continues s p ≡ continues s′ p
+  pub continues-kept : length s ≡ length s′ → (p : ℕ) → a ≤ p → p + 2 ≤ b → continues s p ≡ continues s′ p
   unfolding continues
-  continues-kept p l m = rw (len, num-kept 2 p l m)
+  continues-kept len p l m = rw (len, num-kept 2 p l m)
 
-  module _ (n : ℕ) where
-    next-kept : (c : Cursor) → a ≤ c .end → c .end + 4 ≤ b → nextSegment n s c ≡ nextSegment n s′ c
+  -- what lies in the first up to b lies in the second
+  module _ (long : (e : ℕ) → e ≤ b → e ≤ length s → e ≤ length s′) (n : ℕ) where
+    segment-end : (c : Cursor) (k z e : ℕ) (u : Unit) (d : Cursor) → segmentOf n (c .end) (Record k z e) ≡ got u d → e ≡ d .end
+    segment-end c k z e u d q =
+        pick-by (λ (x : Got Unit). x ≡ got u d → e ≡ d .end) (eqb z 0)
+        (λ _ i. absurd (refused-not i))
+        (λ _ i. let x : _≡_ {A = Cursor} (record { seg = c .end; at = c .end + 4; end = e }) d = cc in ap (λ (y : Cursor). y .end) x) q
+
+    next-by : (c : Cursor) → a ≤ c .end → u16At s (c .end) ≡ 0x003C → (u : Unit) (d : Cursor) → d .end ≤ b → (h : Header) → headerAt s (c .end) ≡ h → segmentOf n (c .end) h ≡ got u d
+        → nextSegment n s′ c ≡ got u d
+    unfolding nextSegment continues
+    next-by c l t u d m (Record k z e) h q =
+        let w = whole s (c .end) k z e h in
+        let i = segment-end c k z e u d q in
+        let j : e ≤ length s′ = long e (omega arith) (w .within) in
+        let g : u16At s′ (c .end) ≡ 0x003C = sym (num-kept 2 (c .end) l (omega arith)) ∙ t in
+        sym (pick-true (got u d) _ _ _ (sym (pick-nlt true false _ (length s′ - c .end) 4 (omega arith) (sym (ap (λ (k : ℕ). eqb k 0x003C) g))))
+        (sym (ap (segmentOf n (c .end)) (header-alike s s′ (c .end) k z e h (λ o x y. same o (omega arith) (omega arith)) j) ∙ q)))
+    next-by c l t u d m Cut h q = absurd (refused-not q)
+    next-by c l t u d m End h q = absurd (refused-not q)
+
+    next-kept : (c : Cursor) → a ≤ c .end → (u : Unit) (d : Cursor) → d .end ≤ b → nextSegment n s c ≡ got u d → nextSegment n s′ c ≡ got u d
     unfolding nextSegment
-    next-kept c l m = rw (continues-kept (c .end) l (omega arith), header-same s s′ len (c .end) (λ k i j. same k (omega arith) (omega arith)))
+    next-kept c l u d m h =
+        pick-by (λ (x : Got Unit). x ≡ got u d → nextSegment n s′ c ≡ got u d) (continues s (c .end))
+        (λ i. next-by c l (continue-type s (c .end) i) u d m (headerAt s (c .end)) refl)
+        (λ _ q. absurd (refused-not q)) h
 
     pub reads-next : (c : Cursor) → Inside s c → a ≤ c .at → Reads s b c (nextSegment n s c) (nextSegment n s′ c)
     reads-next c inside l = record {
       within = go (nextSegment n s c) refl;
-      kept = λ u d e m. let h = next-after n s c u d e in sym (next-kept c (omega arith) (omega arith)) ∙ e;
+      kept = λ u d e m. next-kept c (omega arith) u d m e;
     }
       where
         go : (x : Got Unit) → nextSegment n s c ≡ x → Within s c x
@@ -194,7 +222,7 @@ module _ (s s′ : List ℕ) (len : length s ≡ length s′) (a b : ℕ) (same 
 
 -- ---- what is told of one stream, which has the same bytes as itself
 within-room : (n : ℕ) (s : List ℕ) (f : Bool) (w : ℕ) (c : Cursor) → Inside s c → Within s c (room n s f w c)
-within-room n s f w c inside = reads-room s s refl 0 0 (λ k i j. refl) n f w c inside (omega arith) .within
+within-room n s f w c inside = reads-room s s 0 0 (λ k i j. refl) (λ e i j. j) n f w c inside (omega arith) .within
 
 -- room for v bytes at d, where w were asked at c
 pub record ItemAt (s : List ℕ) (c : Cursor) (w v : ℕ) (d : Cursor) : Type 0 where
@@ -234,16 +262,16 @@ module _ (n : ℕ) (s : List ℕ) (f : Bool) (w : ℕ) (c : Cursor) where
       record { inside = i .0; ahead = i .1; further = i .2; here = j .0; some = j .1; small = j .2 }
 
 -- ---- items
-module _ (s s′ : List ℕ) (len : length s ≡ length s′) (a b : ℕ) (same : Same s s′ a b) (n : ℕ) where
+module _ (s s′ : List ℕ) (a b : ℕ) (same : Same s s′ a b) (long : (e : ℕ) → e ≤ b → e ≤ length s → e ≤ length s′) (n : ℕ) where
   pub reads-items : (f : Bool) (w k : ℕ) (c : Cursor) → Inside s c → a ≤ c .at → Reads s b c (items n s f w k c) (items n s′ f w k c)
   unfolding items
   reads-items f w zero c inside l = reads-got s b c [] inside
   reads-items f w (suc k) c inside l =
-      reads-then s b c _ _ _ _ (reads-room s s′ len a b same n f w c inside l) (λ v d e i m.
+      reads-then s b c _ _ _ _ (reads-room s s′ a b same long n f w c inside l) (λ v d e i m.
       let y = room-item n s f w c v d inside e in
       reads-by s b d _ (push (numAt s v (d .at)) (items n s′ f v k (on d v))) _
       (reads-push s b d _ _ _ (reads-from s b d (on d v) _ _ (omega arith) (omega arith) (reads-items f v k (on d v) (omega arith, omega arith) (omega arith))))
-      (λ o. ap (λ (z : ℕ). push z (items n s′ f v k (on d v))) (num-kept s s′ len a b same v (d .at) (omega arith) (omega arith))))
+      (λ o. ap (λ (z : ℕ). push z (items n s′ f v k (on d v))) (num-kept s s′ a b same v (d .at) (omega arith) (omega arith))))
 
 pub within-items : (n : ℕ) (s : List ℕ) (f : Bool) (w k : ℕ) (c : Cursor) → Inside s c → Within s c (items n s f w k c)
-within-items n s f w k c inside = reads-items s s refl 0 0 (λ k i j. refl) n f w k c inside (omega arith) .within
+within-items n s f w k c inside = reads-items s s 0 0 (λ k i j. refl) (λ e i j. j) n f w k c inside (omega arith) .within

@@ -23,15 +23,15 @@ pub enum Moved {
 }
 
 // An item's width, and where it stands.
-enum Room {
+pub enum Room {
     At { width: usize, place: Cursor },
     Refused { number: u8, offset: usize },
 }
 
 // How many items are taken at once, and their bytes.
-struct Fit {
-    count: usize,
-    bytes: usize,
+pub struct Fit {
+    pub count: usize,
+    pub bytes: usize,
 }
 
 // The width of characters that a flags byte tells.
@@ -133,7 +133,7 @@ fn need_here(number: u8, w: usize, c: Cursor) -> Room
 }
 
 // Room for an item of w bytes, in the next segment where this one has ended.
-fn room_for(s: &[u8], number: u8, flagged: bool, w: usize, c: Cursor) -> Room
+pub fn room_for(s: &[u8], number: u8, flagged: bool, w: usize, c: Cursor) -> Room
     requires { ⌜ Inside (now s) c ⌝ }
     ensures { λ r. ⌜ roomed r ≡ room number (now (s .entry)) flagged w c ⌝ }
 {
@@ -178,7 +178,7 @@ fn most_of(here: usize, w: usize) -> usize
 }
 
 // As many of n items of w bytes as `here` bytes hold.
-fn fit_items(here: usize, w: usize, n: usize) -> Fit
+pub fn fit_items(here: usize, w: usize, n: usize) -> Fit
     requires { ⌜ (1 ≤ w) × (w ≤ here) × (1 ≤ n) ⌝ }
     ensures { λ r. ⌜ Fits here w n (r .count) (r .bytes) ⌝ }
 {
@@ -241,7 +241,7 @@ pub fn skip_items(s: &[u8], number: u8, flagged: bool, w: usize, n: usize, c: Cu
 }
 
 // The character of w bytes at p.
-fn unit_at(s: &[u8], w: usize, p: usize) -> u16
+pub fn unit_at(s: &[u8], w: usize, p: usize) -> u16
     requires { ⌜ (1 ≤ w) × (w ≤ 2) × (p + w ≤ length (now s)) ⌝ }
     ensures { λ r. ⌜ r ≡ numAt (now (s .entry)) w p ⌝ }
 {

@@ -436,10 +436,10 @@ pub ruleset place-laws = (first-inside, skipped-inside, placed, placed-passes, p
 
 -- ---- a fetch
 -- h is the head of a string of these units, and c where its characters are
-record Chars (s : List ℕ) (h : Head) (c : Cursor) (us : List ℕ) : Type 0 where
-  passes : Passes (items 8 s true (h .width) (h .chars) c)
-  are : listOf (items 8 s true (h .width) (h .chars) c) ≡ us
-  count : length us ≡ h .chars
+pub record Chars (s : List ℕ) (h : Head) (c : Cursor) (us : List ℕ) : Type 0 where
+  pub passes : Passes (items 8 s true (h .width) (h .chars) c)
+  pub are : listOf (items 8 s true (h .width) (h .chars) c) ≡ us
+  pub count : length us ≡ h .chars
 
 chars-by : (s : List ℕ) (h : Head) (c : Cursor) (x : Got (List ℕ)) → items 8 s true (h .width) (h .chars) c ≡ x → Count (h .chars) x
     → Passes (then x (λ us e. then (rest s h e) (λ _ i. got us i))) → Chars s h c (listOf (then x (λ us e. then (rest s h e) (λ _ i. got us i))))
@@ -461,7 +461,7 @@ module _ (s : List ℕ) (d : Cursor) (passes : Passes (stringAt s d)) (r : HeadR
     unfolding stringAt
     string-is = ap (λ (x : Got Head). then x (λ h c. then (items 8 s true (h .width) (h .chars) c) (λ us e. then (rest s h e) (λ _ i. got us i)))) (sym is ∙ ap headRead q)
 
-    chars : Chars s h c (unitsAt s d)
+    pub chars : Chars s h c (unitsAt s d)
     chars =
         subst⁻¹ (λ (x : Got (List ℕ)). Chars s h c (listOf x)) string-is
         (chars-by s h c (items 8 s true (h .width) (h .chars) c) refl (count-items 8 s true (h .width) (h .chars) c) (subst Passes string-is passes))

@@ -28,7 +28,7 @@ module _ (s s′ : List ℕ) (len : length s ≡ length s′) (a b : ℕ) (same 
   start-size-kept : (p : ℕ) → a ≤ p → p + 3 ≤ b → startSize s p ≡ startSize s′ p
   unfolding startSize
   start-size-kept p l m =
-      ap₂ (λ (u f : ℕ). pick (eqb u 0) (headSize f) (headSize f + widthOf f)) (num-kept s s′ len a b same 2 p l (omega arith)) (same (p + 2) (omega arith) (omega arith))
+      ap₂ (λ (u f : ℕ). pick (eqb u 0) (headSize f) (headSize f + widthOf f)) (num-kept s s′ a b same 2 p l (omega arith)) (same (p + 2) (omega arith) (omega arith))
 
   module _ (p : ℕ) (l : a ≤ p) (m : p + headSize (byteAt s (p + 2)) ≤ b) where
     flags-kept : byteAt s (p + 2) ≡ byteAt s′ (p + 2)
@@ -36,16 +36,16 @@ module _ (s s′ : List ℕ) (len : length s ≡ length s′) (a b : ℕ) (same 
 
     runs-kept : runsAt s p (byteAt s (p + 2)) ≡ runsAt s′ p (byteAt s (p + 2))
     unfolding runsAt
-    runs-kept = pick-same _ _ _ _ _ (λ t. let r = eqb-true (richBit (byteAt s (p + 2))) 1 t in num-kept s s′ len a b same 2 (p + 3) (omega arith) (omega arith)) (λ t. refl)
+    runs-kept = pick-same _ _ _ _ _ (λ t. let r = eqb-true (richBit (byteAt s (p + 2))) 1 t in num-kept s s′ a b same 2 (p + 3) (omega arith) (omega arith)) (λ t. refl)
 
     phonetic-kept : phoneticAt s p (byteAt s (p + 2)) ≡ phoneticAt s′ p (byteAt s (p + 2))
     unfolding phoneticAt
-    phonetic-kept = pick-same _ _ _ _ _ (λ t. let r = eqb-true (phoneticBit (byteAt s (p + 2))) 1 t in num-kept s s′ len a b same 4 (p + 3 + 2 * richBit (byteAt s (p + 2))) (omega arith) (omega arith)) (λ t. refl)
+    phonetic-kept = pick-same _ _ _ _ _ (λ t. let r = eqb-true (phoneticBit (byteAt s (p + 2))) 1 t in num-kept s s′ a b same 4 (p + 3 + 2 * richBit (byteAt s (p + 2))) (omega arith) (omega arith)) (λ t. refl)
 
     head-kept : headAt s p ≡ headAt s′ p
     unfolding headAt
     head-kept =
-        let u = num-kept s s′ len a b same 2 p l (omega arith) in
+        let u = num-kept s s′ a b same 2 p l (omega arith) in
         let r = runs-kept ∙ ap (runsAt s′ p) flags-kept in
         let x = phonetic-kept ∙ ap (phoneticAt s′ p) flags-kept in
         λ i. record { chars = u i; width = widthOf (flags-kept i); runs = r i; phonetic = x i }
@@ -66,8 +66,11 @@ module _ (s s′ : List ℕ) (len : length s ≡ length s′) (a b : ℕ) (same 
       (λ x. ap₂ (λ (z : Head) (f : ℕ). got z (on e (headSize f))) (head-kept (e .at) (omega arith) (omega arith)) (same (e .at + 2) (omega arith) (omega arith)))))
       (λ x. ap (λ (z : ℕ). then (need 8 z c) (λ _ e. got (headAt s′ (e .at)) (on e (headSize (byteAt s′ (e .at + 2)))))) (start-size-kept (c .at) (omega arith) (omega arith))))
 
+  long : (e : ℕ) → e ≤ b → e ≤ length s → e ≤ length s′
+  long e i j = omega arith
+
   reads-some : (f : Bool) (w n : ℕ) (c : Cursor) → Inside s c → a ≤ c .at → Reads s b c (items 8 s f w n c) (items 8 s′ f w n c)
-  reads-some f w n c inside l = reads-items s s′ len a b same 8 f w n c inside l
+  reads-some f w n c inside l = reads-items s s′ a b same long 8 f w n c inside l
 
   reads-rest : (h : Head) (c : Cursor) → Inside s c → a ≤ c .at → Reads s b c (rest s h c) (rest s′ h c)
   unfolding rest
@@ -82,7 +85,7 @@ module _ (s s′ : List ℕ) (len : length s ≡ length s′) (a b : ℕ) (same 
 
   pub reads-place : (c : Cursor) → Inside s c → a ≤ c .at → Reads s b c (nextPlace s c) (nextPlace s′ c)
   unfolding nextPlace
-  reads-place c inside l = reads-pick s b c _ _ _ _ _ (reads-next s s′ len a b same 8 c inside l) (reads-got s b c tt inside)
+  reads-place c inside l = reads-pick s b c _ _ _ _ _ (reads-next s s′ a b same long 8 c inside l) (reads-got s b c tt inside)
 
   pub reads-strings : (n : ℕ) (c : Cursor) → Inside s c → a ≤ c .at → Reads s b c (strings s n c) (strings s′ n c)
   unfolding strings
@@ -175,7 +178,7 @@ module _ (s s′ : List ℕ) (len : length s ≡ length s′) (p e : ℕ) (withi
       let r = right s p e l c is in
       let i = r .long in
       let m = end-after in
-      let u : u32At s (p + 8) ≡ u32At s′ (p + 8) = num-kept s s′ len p (c .end) same 4 (p + 8) (omega arith) (omega arith) in
+      let u : u32At s (p + 8) ≡ u32At s′ (p + 8) = num-kept s s′ p (c .end) same 4 (p + 8) (omega arith) (omega arith) in
       table-is s′ p e l c (record {
         long = r .long;
         read = ap (λ (n : ℕ). strings s′ n (first p e)) (sym u) ∙ reads-table .kept l c (r .read) (omega arith);

@@ -11,15 +11,15 @@ use segments::Cursor;
 use segments::Moved;
 
 // A string's head: its characters and their width, its runs, its phonetic bytes.
-struct Head {
-    chars: usize,
-    width: usize,
-    runs: usize,
-    phonetic: usize,
+pub struct Head {
+    pub chars: usize,
+    pub width: usize,
+    pub runs: usize,
+    pub phonetic: usize,
 }
 
 // A head, and where its string's characters start.
-enum HeadRead {
+pub enum HeadRead {
     Whole { head: Head, chars: Cursor },
     Refused { number: u8, offset: usize },
 }
@@ -37,14 +37,14 @@ pub enum Fetched {
 }
 
 // Bit 2 of the flags: 1 where a phonetic size follows.
-fn phonetic_bit(flags: u8) -> usize
+pub fn phonetic_bit(flags: u8) -> usize
     ensures { λ r. ⌜ r ≡ phoneticBit flags ⌝ }
 {
     ((flags >> 2) & 1) as usize
 }
 
 // Bit 3 of the flags: 1 where a run count follows.
-fn rich_bit(flags: u8) -> usize
+pub fn rich_bit(flags: u8) -> usize
     ensures { λ r. ⌜ r ≡ richBit flags ⌝ }
 {
     ((flags >> 3) & 1) as usize
@@ -103,7 +103,7 @@ fn start_size(s: &[u8], p: usize) -> usize
     size + segments::width_of(flags)
 }
 
-fn string_head(s: &[u8], d: Cursor) -> HeadRead
+pub fn string_head(s: &[u8], d: Cursor) -> HeadRead
     requires { ⌜ Inside (now s) d ⌝ }
     ensures { λ r. ⌜ headRead r ≡ head (now (s .entry)) d ⌝ }
 {
@@ -195,7 +195,7 @@ fn plain_size(s: &[u8], c: Cursor) -> usize
 }
 
 // Past the next string.
-fn skip_next(s: &[u8], c: Cursor) -> Moved
+pub fn skip_next(s: &[u8], c: Cursor) -> Moved
     requires { ⌜ Inside (now s) c ⌝ }
     ensures { λ r. ⌜ moved r ≡ ends (nextString (now (s .entry)) c) ⌝ }
 {
@@ -214,7 +214,7 @@ fn skip_next(s: &[u8], c: Cursor) -> Moved
 }
 
 // Past n strings.
-fn skip_strings(s: &[u8], n: usize, c: Cursor) -> Moved
+pub fn skip_strings(s: &[u8], n: usize, c: Cursor) -> Moved
     requires { ⌜ Inside (now s) c ⌝ }
     ensures { λ r. ⌜ moved r ≡ ends (strings (now (s .entry)) n c) ⌝ }
 {
@@ -290,7 +290,7 @@ pub fn fetch_at(s: &[u8], d: Cursor, buf: &mut [u16]) -> Fetched
 }
 
 // The place of string i of the table whose SST has its header at p and ends at e: a table that has it refuses nothing on the way there.
-fn place_at(s: &[u8], p: usize, e: usize, i: usize) -> Cursor
+pub fn place_at(s: &[u8], p: usize, e: usize, i: usize) -> Cursor
     requires { ⌜ (p + 4 ≤ e) × (e ≤ length (now s)) × (i < length (placesOf (now s) p e)) ⌝ }
     ensures { λ r. ⌜ r ≡ placeOf (now (s .entry)) p e i ⌝ }
 {

@@ -181,7 +181,7 @@ module _ (s : List ℕ) (k u : ℕ) (v : Here) (t z e : ℕ) (w : Whole s (v .at
   ahead-dimensions = pick-any (Ahead s v) _ (omega arith) tt
 
   ahead-text : (x : Got (List ℕ)) → textOf s (v .at) e ≡ x → Ahead s v (onText x)
-  ahead-text (got us c) h = let i = text-ahead s s refl (v .at) e us c h in omega arith
+  ahead-text (got us c) h = let i = text-ahead s (v .at) e us c h in omega arith
   ahead-text (refused n o) h = tt
 
   ahead-passed : Ahead s v (passedRecord s (v .at) t e)

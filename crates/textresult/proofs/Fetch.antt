@@ -33,11 +33,11 @@ unfolding bufferOf
 none-buffer b = pick-any (λ (l : List ℕ). b ≡ l) _ refl refl
 
 -- ---- a string of which nothing is refused: c is where it stands
-record Chars (s : List ℕ) (c : Cursor) (us : List ℕ) : Type 0 where
-  start : startSize s (c .at) ≤ c .end - c .at
-  passes : Passes (items 6 s true (widthOf (byteAt s (c .at + 2))) (u16At s (c .at)) (on c 3))
-  are : listOf (items 6 s true (widthOf (byteAt s (c .at + 2))) (u16At s (c .at)) (on c 3)) ≡ us
-  count : length us ≡ u16At s (c .at)
+pub record Chars (s : List ℕ) (c : Cursor) (us : List ℕ) : Type 0 where
+  pub start : startSize s (c .at) ≤ c .end - c .at
+  pub passes : Passes (items 6 s true (widthOf (byteAt s (c .at + 2))) (u16At s (c .at)) (on c 3))
+  pub are : listOf (items 6 s true (widthOf (byteAt s (c .at + 2))) (u16At s (c .at)) (on c 3)) ≡ us
+  pub count : length us ≡ u16At s (c .at)
 
 chars-by : (s : List ℕ) (c : Cursor) (x : Got (List ℕ)) → stringAt s c ≡ x → Passes x → Chars s c (listOf x)
 chars-by s c (got us d) q p =
@@ -51,7 +51,7 @@ chars-by s c (got us d) q p =
 chars-by s c (refused n o) q p = absurd p
 
 module _ (s : List ℕ) (c : Cursor) (passes : Passes (stringAt s c)) where
-  chars : Chars s c (listOf (stringAt s c))
+  pub chars : Chars s c (listOf (stringAt s c))
   chars = chars-by s c (stringAt s c) refl passes
 
   pub short-not : c .end - c .at < 3 → ⊥
@@ -105,7 +105,7 @@ module _ (s : List ℕ) (c : Cursor) (m : Moved) (is : moved m ≡ ends (stringA
       by (refused a b) i = absurd (refused-not i)
 
   module _ (a b : ℕ) (h : m ≡ Moved.Refused a b) where
-    refused-is : (P : Got (List ℕ) → Type 0) → ((n o : ℕ) → P (refused n o)) → P (stringAt s c)
+    pub refused-is : (P : Got (List ℕ) → Type 0) → ((n o : ℕ) → P (refused n o)) → P (stringAt s c)
     refused-is P f = by (stringAt s c) (sym is ∙ ap moved h)
       where
         by : (x : Got (List ℕ)) → ends x ≡ refused a b → P x
@@ -137,7 +137,7 @@ pub ruleset fetch-laws = (moved-passes, refused-answer, refused-buffer, whole-an
 
 -- ---- the whole
 module _ (s : List ℕ) (f p : ℕ) (r : Bool) (is : r ≡ isString s p) where
-  at-none : r ≡ false → refused 6 f ≡ textAt s f p
+  pub at-none : r ≡ false → refused 6 f ≡ textAt s f p
   unfolding textAt
   at-none h = pick-no (refused 6 f) _ _ is h refl
 
@@ -148,7 +148,7 @@ module _ (s : List ℕ) (f p : ℕ) (r : Bool) (is : r ≡ isString s p) where
   none-buffered h b = ap (bufferTo b) (at-none h)
 
   module _ (h : r ≡ true) (q x : Header) (j : q ≡ headerAt s p) (k : q ≡ x) where
-    at-string : onString s p x ≡ textAt s f p
+    pub at-string : onString s p x ≡ textAt s f p
     unfolding textAt
     at-string = ap (onString s p) (sym k ∙ j) ∙ pick-yes (onString s p (headerAt s p)) _ _ is h refl
 

@@ -1,4 +1,4 @@
--- A text result is read from its own bytes: a stream of the same length that has the same bytes there has the same one. Assumes nothing.
+-- A text result is read from its own bytes: a stream that has the same bytes there, and no CONTINUE after them, has the same one. Assumes nothing.
 use Prim.Native.Nat.{ℕ, _+_, _-_, _≤_}
 use mathlib.Core.Path.{_≡_, refl, sym, ap, ap₂, _∙_, subst}
 use mathlib.Core.List.{List}
@@ -8,13 +8,13 @@ use lib.ListN.{length}
 use lib.Dec.{ltb, eqb}
 use borrow.Author.Tests.{eqb-true}
 use Rattle.walk.specs.Choice.{pick}
-use Rattle.walk.proofs.Choice.{never, pick-any, pick-by, pick-true, pick-nlt}
+use Rattle.walk.proofs.Choice.{never, pick-any, pick-by, pick-true, pick-false, pick-nlt}
 use Rattle.le.specs.Bytes.{byteAt, u16At}
 use Rattle.le.proofs.Laws.{Same, num-same}
 use Rattle.record.specs.declared.Header.{Header}
 use Rattle.record.specs.declared.Header.the-variants.{Record, Cut, End}
 use Rattle.record.specs.Record.{headerAt}
-use Rattle.record.proofs.Laws.{whole, header-same}
+use Rattle.record.proofs.Laws.{whole, header-alike}
 use Rattle.segments.specs.declared.Cursor.{Cursor}
 use Rattle.segments.specs.Segments.{Got, got, refused, then, on, continues, filled, need, widthOf, items}
 use Rattle.segments.specs.Parts.{Inside}
@@ -85,8 +85,9 @@ module _ (s : List ℕ) (c : Cursor) (us : List ℕ) (d : Cursor) where
       let w : Within s (on c 3) (got us d) = subst (Within s (on c 3)) (r .read) (within-items 6 s true (widthOf (byteAt s (c .at + 2))) (u16At s (c .at)) (on c 3) (omega arith, omega arith)) in
       (w .0, omega arith, w .2)
 
--- ---- the same bytes up to its end: the same string. Of the record after it only this counts, whether it is a CONTINUE
-module _ (s s′ : List ℕ) (len : length s ≡ length s′) (c : Cursor) (inside : Inside s c) (us : List ℕ) (d : Cursor) (is : stringAt s c ≡ got us d) (same : Same s s′ (c .at) (d .end + 2)) where
+-- ---- a stream with the same bytes up to its end, and no CONTINUE there: the same string
+module _ (s s′ : List ℕ) (c : Cursor) (inside : Inside s c) (us : List ℕ) (d : Cursor) (is : stringAt s c ≡ got us d) (same : Same s s′ (c .at) (d .end)) (fits : d .end ≤ length s′)
+    (alone : continues s′ (d .end) ≡ false) where
   string-same : stringAt s′ c ≡ got us d
   unfolding startSize
   string-same =
@@ -102,9 +103,9 @@ module _ (s s′ : List ℕ) (len : length s ≡ length s′) (c : Cursor) (insi
         start = subst (λ (k : ℕ). k ≤ c .end - c .at) z (r .start);
         read =
             ap₂ (λ (a b : ℕ). items 6 s′ true (widthOf b) a (on c 3)) (sym n) (sym f)
-            ∙ reads-items s s′ len (c .at) (d .end) (λ k a b. same k a (omega arith)) 6 true (widthOf (byteAt s (c .at + 2))) (u16At s (c .at)) (on c 3) (omega arith, omega arith) (omega arith) .kept us d (r .read) (omega arith);
+            ∙ reads-items s s′ (c .at) (d .end) same (λ e i j. omega arith) 6 true (widthOf (byteAt s (c .at + 2))) (u16At s (c .at)) (on c 3) (omega arith, omega arith) (omega arith) .kept us d (r .read) (omega arith);
         full = r .full;
-        alone = sym (continues-kept s s′ len (c .at) (d .end + 2) same (d .end) (omega arith) (omega arith)) ∙ r .alone;
+        alone = alone;
       })
 
 -- ---- a text result that is right: its STRING stands at p and its body ends at e
@@ -133,29 +134,35 @@ module _ (s : List ℕ) (f p : ℕ) (us : List ℕ) (d : Cursor) where
   unfolding textAt
   text-at h = pick-by TextIf (isString s p) (λ i. text-by i (headerAt s p) refl) (λ _ q. absurd (refused-not q)) h
 
--- a stream of the same length, with the same bytes from p up to two past its end
-module _ (s s′ : List ℕ) (len : length s ≡ length s′) (f p : ℕ) (us : List ℕ) (d : Cursor) (is : textAt s f p ≡ got us d) where
+-- a stream with the same bytes from p up to its end, and no CONTINUE there
+module _ (s s′ : List ℕ) (f p : ℕ) (us : List ℕ) (d : Cursor) (is : textAt s f p ≡ got us d) where
   text : Text s p us d
   text = text-at s f p us d is
 
   string-inside : Inside s (body p (text .end))
   string-inside = let w = whole s p (text .kind) (text .size) (text .end) (text .header) in (omega arith, omega arith)
 
-  pub text-end : (p + 4 ≤ d .end) × (d .end ≤ length s)
+  -- the end of its STRING, and its own
+  text-end : (p + 4 ≤ text .end) × (text .end ≤ d .end) × (d .end ≤ length s)
   text-end =
       let w = string-within s (body p (text .end)) us d string-inside (text .string) in
       let h = whole s p (text .kind) (text .size) (text .end) (text .header) in
-      (omega arith, omega arith)
+      (omega arith, omega arith, omega arith)
 
-  text-at-same : Same s s′ p (d .end + 2) → textAt s′ f p ≡ got us d
+  text-at-same : Same s s′ p (d .end) → d .end ≤ length s′ → continues s′ (d .end) ≡ false → textAt s′ f p ≡ got us d
   unfolding textAt isString
-  text-at-same same =
+  text-at-same same fits alone =
       let h = whole s p (text .kind) (text .size) (text .end) (text .header) in
       let w = text-end in
       let t : u16At s′ p ≡ 0x0207 = sym (num-same s s′ 2 p (λ k a b. same k (omega arith) (omega arith))) ∙ text .type in
       sym (pick-true (got us d) _ _ _ (sym (pick-nlt true false _ (length s′ - p) 4 (omega arith) (sym (ap (λ (k : ℕ). eqb k 0x0207) t))))
-      (sym (ap (onString s′ p) (sym (header-same s s′ len p (λ k a b. same k (omega arith) (omega arith))) ∙ text .header)
-      ∙ string-same s s′ len (body p (text .end)) string-inside us d (text .string) (λ k a b. same k (omega arith) (omega arith)))))
+      (sym (ap (onString s′ p) (header-alike s s′ p (text .kind) (text .size) (text .end) (text .header) (λ k a b. same k a (omega arith)) (omega arith))
+      ∙ string-same s s′ (body p (text .end)) string-inside us d (text .string) (λ k a b. same k (omega arith) b) fits alone)))
+
+abbrev ends : Header → ℕ
+ends (Record k z e) = e
+ends Cut = 0
+ends End = 0
 
 -- where it is looked for
 abbrev Placed : ℕ → ℕ → Type 0
@@ -170,17 +177,46 @@ pub place-ahead : (s : List ℕ) (e : ℕ) → e ≤ stringPlace s e
 unfolding stringPlace
 place-ahead s e = place-by s e (headerAt s e) refl
 
-module _ (s s′ : List ℕ) (len : length s ≡ length s′) (f e : ℕ) (us : List ℕ) (d : Cursor) (is : textOf s f e ≡ got us d) where
+module _ (s : List ℕ) (f e : ℕ) (us : List ℕ) (d : Cursor) (is : textOf s f e ≡ got us d) where
   -- the end of a text result is at least a header past its formula
   pub text-ahead : (e + 4 ≤ d .end) × (d .end ≤ length s)
   unfolding textOf
-  text-ahead = let a = place-ahead s e in let b = text-end s s refl f (stringPlace s e) us d is in (omega arith, b .1)
+  text-ahead = let a = place-ahead s e in let b = text-end s s f (stringPlace s e) us d is in (omega arith, b .2)
 
-  pub text-same : Same s s′ e (d .end + 2) → textOf s′ f e ≡ got us d
-  unfolding textOf stringPlace
-  text-same same =
-      let a = place-ahead s e in
-      let b = text-ahead in
-      let h : headerAt s e ≡ headerAt s′ e = header-same s s′ len e (λ k i j. same k i (omega arith)) in
-      ap (λ (x : Header). textAt s′ f (pastOne e x)) (sym h)
-      ∙ text-at-same s s′ len f (stringPlace s e) us d is (λ k i j. same k (omega arith) j)
+  -- and no CONTINUE stands there
+  pub text-alone : continues s (d .end) ≡ false
+  unfolding textOf
+  text-alone = let x = text s s f (stringPlace s e) us d is in right s (body (stringPlace s e) (x .end)) us d (x .string) .alone
+
+  module _ (s′ : List ℕ) (same : Same s s′ e (d .end)) (fits : d .end ≤ length s′) where
+    -- a whole record stands where it is looked for first: its STRING, or the one before it
+    place-same : (h : Header) → headerAt s e ≡ h → textAt s f (pastOne e h) ≡ got us d → stringPlace s′ e ≡ pastOne e h
+    unfolding stringPlace
+    place-same (Record k z g) h i = ap (pastOne e) (header-alike s s′ e k z g h (λ j a b. same j a (let l = text-ahead in omega arith)) (by (between k) refl i))
+      where
+        by : (b : Bool) → between k ≡ b → textAt s f (pick (between k) g e) ≡ got us d → g ≤ length s′
+        by true t i = let p : pick (between k) g e ≡ g = sym (pick-true g g e (between k) t refl) in let x = text-end s s f g us d (sym (ap (textAt s f) p) ∙ i) in omega arith
+        by false t i =
+            let p : pick (between k) g e ≡ e = sym (pick-false e g e (between k) t refl) in
+            let x : textAt s f e ≡ got us d = sym (ap (textAt s f) p) ∙ i in
+            let j = text s s f e us d x in
+            let a = j .header in
+            let o : g ≡ j .end = ap ends (sym h ∙ a) in
+            let w = text-end s s f e us d x in
+            omega arith
+    place-same Cut h i = absurd (let j = text s s f e us d i in let a = j .header in never (cc))
+    place-same End h i = absurd (let j = text s s f e us d i in let a = j .header in never (cc))
+
+    -- a stream with the same bytes from the formula's end up to its own, and no CONTINUE there
+    pub text-near : continues s′ (d .end) ≡ false → textOf s′ f e ≡ got us d
+    unfolding textOf stringPlace
+    text-near alone =
+        let a = place-ahead s e in
+        ap (textAt s′ f) (place-same (headerAt s e) refl is)
+        ∙ text-at-same s s′ f (stringPlace s e) us d is (λ k i j. same k (omega arith) j) fits alone
+
+  -- a stream of the same length: its bytes and two more, which say that no CONTINUE stands at its end
+  pub text-same : (s′ : List ℕ) → length s ≡ length s′ → Same s s′ e (d .end + 2) → textOf s′ f e ≡ got us d
+  text-same s′ len same =
+      let w = text-ahead in
+      text-near s′ (λ k i j. same k i (omega arith)) (omega arith) (sym (continues-kept s s′ e (d .end + 2) same len (d .end) (omega arith) (omega arith)) ∙ text-alone)

@@ -56,7 +56,7 @@ fn between(kind: u16) -> bool
 }
 
 // Where the STRING of a formula that ends at `e` is looked for.
-fn string_place(s: &[u8], e: usize) -> usize
+pub fn string_place(s: &[u8], e: usize) -> usize
     requires { ⌜ e ≤ length (now s) ⌝ }
     ensures { λ r. ⌜ (r ≡ stringPlace (now (s .entry)) e) × (r ≤ length (now (s .entry))) ⌝ }
 {
@@ -73,7 +73,7 @@ fn string_place(s: &[u8], e: usize) -> usize
 }
 
 // Whether a whole header of a STRING stands at `p`.
-fn is_string(s: &[u8], p: usize) -> bool
+pub fn is_string(s: &[u8], p: usize) -> bool
     requires { ⌜ p ≤ length (now s) ⌝ }
     ensures { λ r. ⌜ r ≡ isString (now (s .entry)) p ⌝ }
 {
@@ -95,7 +95,7 @@ fn start_size(s: &[u8], p: usize) -> usize
 }
 
 // Past the string at c, which is to fill its segments.
-fn skip_string(s: &[u8], c: Cursor) -> Moved
+pub fn skip_string(s: &[u8], c: Cursor) -> Moved
     requires { ⌜ Inside (now s) c ⌝ }
     ensures { λ r. ⌜ moved r ≡ ends (stringAt (now (s .entry)) c) ⌝ }
 {

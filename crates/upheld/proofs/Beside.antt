@@ -17,6 +17,7 @@ use Rattle.cell.specs.Cells.{shapeOf}
 use Rattle.segments.specs.declared.Cursor.{Cursor}
 use Rattle.segments.specs.Segments.{got}
 use Rattle.textresult.specs.TextResult.{textOf}
+use Rattle.textresult.proofs.Local.{text-same}
 use Rattle.substream.specs.declared.Here.{Here}
 use Rattle.substream.specs.Substream.{recordIn, onHeader, stepOf}
 use Rattle.globals.specs.Sheets.{sheetsFrom}
@@ -84,8 +85,8 @@ module _ (s s′ : List ℕ) (len : length s ≡ length s′) (a t z e : ℕ) (i
         rw (p₁, p₂, p₃) (kept k v q (rw (p₁, p₂, p₃) at m))
 
     -- a text result beside it lies beside it whole
-    text-apart : (x f : ℕ) → P f → (us : List ℕ) (d : Cursor) → textOf s x f ≡ got us d → Same s s′ f (d .end + 2)
-    text-apart x f p us d i = by (plain-beside s a t z e is cells p (text-chain s x f us d i))
+    text-apart : (x f : ℕ) → P f → (us : List ℕ) (d : Cursor) → textOf s x f ≡ got us d → textOf s′ x f ≡ got us d
+    text-apart x f p us d i = text-same s x f us d i s′ len (by (plain-beside s a t z e is cells p (text-chain s x f us d i)))
       where
         by : (d .end ≤ a) ⊎ (e ≤ f) → Same s s′ f (d .end + 2)
         by (inl m) j l n = before j (omega arith) (omega arith)
@@ -99,8 +100,8 @@ module _ (s s′ : List ℕ) (len : length s ≡ length s′) (a t z e : ℕ) (i
         by : (t₁ z₁ f : ℕ) → headerAt s (v .at) ≡ Record t₁ z₁ f → (v .at ≡ a) ⊎ ((f ≤ a) ⊎ (e ≤ v .at)) → recordIn s k u v t₁ z₁ f ≡ recordIn s′ k u v t₁ z₁ f
         by t₁ z₁ f h (inl q) = kept-here k v t₁ z₁ f q h (moves-record k v t₁ z₁ f h m)
         by t₁ z₁ f h (inr o) =
-            record-local s s′ k u v t₁ z₁ f (whole s (v .at) t₁ z₁ f h .end) (apart-same (v .at) f o) len
-            (text-apart (v .at) f (beside-keep (v .at) f p (over s h))) (moves-record k v t₁ z₁ f h m)
+            record-local s s′ k u v t₁ z₁ f (whole s (v .at) t₁ z₁ f h .end) (apart-same (v .at) f o)
+            (λ _ _. text-apart (v .at) f (beside-keep (v .at) f p (over s h))) (moves-record k v t₁ z₁ f h m)
 
     pub beside-agrees : (t ≡ 0 → ⊥) → Agreeing s s′ u (Beside s a e)
     beside-agrees n = record { len = len; keep = beside-keep; head = beside-head; step = step-same; zeros = beside-zeros n }

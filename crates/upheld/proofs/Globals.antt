@@ -97,7 +97,7 @@ module _ (s s′ : List ℕ) (len : length s ≡ length s′) (g : Globals) (sam
         let w = whole s (v .at) t z e h in
         let r = room s g (pastTable v (length l) (c .end)) m in
         ap (λ (x : Got (List Cursor)). onTable v (answerOf x))
-        (sym (table-same s s′ len (v .at) e (w .within) l c i (λ j a b. same j (omega arith) (omega arith)) (continues-kept s s′ len 0 (g .at) same (c .end) (omega arith) (omega arith))))
+        (sym (table-same s s′ len (v .at) e (w .within) l c i (λ j a b. same j (omega arith) (omega arith)) (continues-kept s s′ 0 (g .at) same len (c .end) (omega arith) (omega arith))))
     table-by (refused n o) i m = absurd m
 
     sst-same : To s g (sstRecord s v e) → sstRecord s v e ≡ sstRecord s′ v e

@@ -23,7 +23,6 @@ use Rattle.segments.specs.declared.Cursor.{Cursor}
 use Rattle.segments.specs.Segments.{Got, got, refused}
 use Rattle.value.specs.Value.{resultOf}
 use Rattle.textresult.specs.TextResult.{isText, hasText, textOf}
-use Rattle.textresult.proofs.Local.{text-same}
 use Rattle.substream.specs.declared.Here.{Here}
 use Rattle.substream.specs.declared.Step.the-variants.{More, Open, Stop}
 use Rattle.substream.specs.Substream.{pastParent, kindAt, innerBof, otherRecord, dimensionsFit, dimensionsRecord, onText, passedRecord, onJudged, recordIn, onHeader, stepOf}
@@ -69,28 +68,28 @@ module _ (s s′ : List ℕ) (k u : ℕ) (v : Here) (t z e : ℕ) where
         (λ q. let m = formula-body s t (v .at) z u n i (eqb-true t 0x0006 q) in ap (λ (x : ℕ). isText (resultOf x)) (num-same s s′ 8 (v .at + 10) (λ j a b. h j (omega arith) (omega arith))))
         (λ _. refl)
 
-    -- the bytes of its text result, and two more, are the same
-    module _ (len : length s ≡ length s′) (text : (us : List ℕ) (d : Cursor) → textOf s (v .at) e ≡ got us d → Same s s′ e (d .end + 2)) where
-      text-local : (x : Got (List ℕ)) → textOf s (v .at) e ≡ x → Moves (onText x) → onText x ≡ onText (textOf s′ (v .at) e)
-      text-local (got us d) i m = ap onText (sym (text-same s s′ len (v .at) e us d i (text us d i)))
-      text-local (refused n o) i m = absurd m
+    -- its text result, if it is read, is the same
+    module _ (text : k ≡ 0x0010 → hasText s t (v .at) ≡ true → (us : List ℕ) (d : Cursor) → textOf s (v .at) e ≡ got us d → textOf s′ (v .at) e ≡ got us d) where
+      text-local : k ≡ 0x0010 → hasText s t (v .at) ≡ true → (x : Got (List ℕ)) → textOf s (v .at) e ≡ x → Moves (onText x) → onText x ≡ onText (textOf s′ (v .at) e)
+      text-local w q (got us d) i m = ap onText (sym (text w q us d i))
+      text-local w q (refused n o) i m = absurd m
 
-      passed-local : hasText s t (v .at) ≡ hasText s′ t (v .at) → Moves (passedRecord s (v .at) t e) → passedRecord s (v .at) t e ≡ passedRecord s′ (v .at) t e
+      passed-local : k ≡ 0x0010 → hasText s t (v .at) ≡ hasText s′ t (v .at) → Moves (passedRecord s (v .at) t e) → passedRecord s (v .at) t e ≡ passedRecord s′ (v .at) t e
       unfolding passedRecord
-      passed-local q m =
-          pick-same-by Moves (hasText s t (v .at)) _ _ _ _ (λ _ o. text-local (textOf s (v .at) e) refl o) (λ _ _. refl) m
+      passed-local w q m =
+          pick-same-by Moves (hasText s t (v .at)) _ _ _ _ (λ i o. text-local w i (textOf s (v .at) e) refl o) (λ _ _. refl) m
           ∙ ap (λ (b : Bool). pick b (onText (textOf s′ (v .at) e)) (More (pastParent e))) q
 
-      judged-local : (x : Judged) → judgeOf s (shapeOf t) (v .at) z u ≡ x → Moves (onJudged s k v t z e x) → onJudged s k v t z e x ≡ onJudged s′ k v t z e x
-      judged-local (judged.Passed n) i m = passed-local (has-local n i) m
-      judged-local (judged.Refused n o) i m = refl
-      judged-local judged.Other i m = ap₂ (pick (eqb t 0x0200)) dimensions-local (ap (pick (eqb t 0x0207) (Stop 6 (v .at))) other-local)
+      judged-local : k ≡ 0x0010 → (x : Judged) → judgeOf s (shapeOf t) (v .at) z u ≡ x → Moves (onJudged s k v t z e x) → onJudged s k v t z e x ≡ onJudged s′ k v t z e x
+      judged-local w (judged.Passed n) i m = passed-local w (has-local n i) m
+      judged-local w (judged.Refused n o) i m = refl
+      judged-local w judged.Other i m = ap₂ (pick (eqb t 0x0200)) dimensions-local (ap (pick (eqb t 0x0207) (Stop 6 (v .at))) other-local)
 
       pub record-local : Moves (recordIn s k u v t z e) → recordIn s k u v t z e ≡ recordIn s′ k u v t z e
       unfolding recordIn
       record-local m =
           pick-same-by Moves (eqb k 0x0010) _ _ _ _
-          (λ _ o. judged-local (judgeOf s (shapeOf t) (v .at) z u) refl o ∙ ap (onJudged s′ k v t z e) (sym (judge-local s s′ (v .at) z (shapeOf t) (λ j i l. h j i (omega arith)) u)))
+          (λ w o. judged-local (eqb-true k 0x0010 w) (judgeOf s (shapeOf t) (v .at) z u) refl o ∙ ap (onJudged s′ k v t z e) (sym (judge-local s s′ (v .at) z (shapeOf t) (λ j i l. h j i (omega arith)) u)))
           (λ _ _. other-local) m
 
 module _ (s s′ : List ℕ) (len : length s ≡ length s′) (k u : ℕ) (v : Here) where

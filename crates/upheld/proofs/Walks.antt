@@ -52,7 +52,7 @@ NotDone top.Done = ⊥
 NotDone (top.Stop n o) = Unit {0}
 
 module _ (s : List ℕ) (x : ℕ) where
-  end-is : headerAt s x ≡ End → length s ≤ x
+  pub end-is : headerAt s x ≡ End → length s ≤ x
   unfolding headerAt
   end-is h =
       pick-by (λ (y : Header). y ≡ End → length s ≤ x) (leb (length s) x) (λ t _. leb-true (length s) x t)
@@ -64,7 +64,7 @@ module _ (s : List ℕ) (x : ℕ) where
   done-by Cut h i = absurd (subst NotDone i tt)
   done-by End h i = ap tops.allZero (drop-of-length-le s (end-is h))
 
-  done-zeros : tops.topOf s x ≡ top.Done → tops.allZero (drop x s) ≡ true
+  pub done-zeros : tops.topOf s x ≡ top.Done → tops.allZero (drop x s) ≡ true
   unfolding tops.topOf
   done-zeros h =
       pick-by (λ (y : Top). y ≡ top.Done → tops.allZero (drop x s) ≡ true) (tops.allZero (drop x s))
