@@ -5,7 +5,7 @@
  * none; what isn't answered is 0. After a refusal all lent memory holds what it held, but for a replay that an entry stopped.
  *
  * Lent memory. A slice is a pointer and a length, counted in what the pointer points to: bytes for a stream and for tokens, 16-bit
- * units for the room of a string, 32-bit numbers for a table, 64-bit words for the room of cells. It must be valid for its length;
+ * units for the room of a string, 32-bit numbers for a table, 64-bit words for the room of cells and differences. It must be valid for its length;
  * the pointer of an empty one must not be null, and all must be aligned. A stream and what is written must not overlap. Nothing is
  * kept after a call.
  *
@@ -56,7 +56,7 @@ enum station_refusal {
     STATION_BAD_TOKEN = 13,       /* the formula has an unknown, cut or misplaced token, or a bad length; the offset is the token's */
     STATION_BAD_STACK = 14,       /* the formula's stack runs short, or does not end with one operand; at the token, or the formula's end */
     STATION_BAD_FUNCTION = 15,    /* the formula has no such function, or uses it wrongly; the offset is the token's */
-    STATION_AMBIGUOUS = 16,       /* correction: two or more cells have the address; offset 0 */
+    STATION_AMBIGUOUS = 16,       /* correction: two or more cells have the address; comparison: in some sheet an address has; offset 0 */
     STATION_WRONG_KIND = 17,      /* correction: the cell's kind does not take this kind of value, or the sheet is the template's; offset 0 */
     STATION_DOES_NOT_FIT = 18,    /* correction: the value does not fit the cell; offset 0 */
     STATION_MISMATCH = 19,        /* replay: the cell's value field is not what the entry says it was, or backwards what it wrote; offset 0 */
@@ -126,6 +126,20 @@ struct station_filled { size_t cells; bool ended; size_t at; uint16_t part; uint
 struct station_cells station_cells(const uint8_t *stream, size_t length, uint32_t sheet);
 struct station_filled station_next_cells(const uint8_t *stream, size_t length, size_t at, uint16_t part, uint8_t level,
                                          uint64_t *words, size_t room);
+
+/* compare: where two streams differ, by sheet, row and column, a word each. From the lowest bit on a word has
+ *   2 bits: 0 the names of a sheet in both differ, 1 the address is only in the first stream, 2 only in the second, 3 in both with
+ *   unequal values;
+ *   16 bits column, 16 bits row, 1 bit that is set for a cell and not for a name, and the sheet's number.
+ * Names and text are compared by characters, numbers by their 64 bits, formulas by their results and not by their tokens; a formula
+ * never equals a plain value. A sheet that is in one stream only has all its cells there, and nothing is said of its name.
+ * The words from the key `from` on (a word without its 2 lowest bits, word / 4), as many as the buffer has room for; words after them
+ * stay. They ascend. Where more is set, go on from the last word's key + 1. A call checks both streams: lend room for thousands.
+ * which is 1 where the first stream is refused, 2 where it is the second, else 0: the first's refusal by the check, then the second's,
+ * then 16 for an address that has two cells in a sheet of the first, then of the second. */
+struct station_compared { uint8_t number; uint8_t which; size_t offset; size_t words; bool more; };
+struct station_compared station_compare(const uint8_t *first, size_t first_length, const uint8_t *second, size_t second_length,
+                                        uint64_t from, uint64_t *words, size_t room);
 
 /* correct: one cell's value field. kind 0 takes number, 1 index (a text), 2 byte (a truth), any other byte (an error code) */
 struct station_answer station_correct(uint8_t *stream, size_t length, uint32_t sheet, uint32_t row, uint32_t column,

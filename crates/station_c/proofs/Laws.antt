@@ -22,6 +22,9 @@ use Rattle.listing.specs.declared.NextSheet.{NextSheet}
 use Rattle.listing.specs.declared.NextSheet.the-variants as nextSheet
 use Rattle.reading.specs.declared.Place.{Place}
 use Rattle.reading.specs.Reading.{nameAt}
+use Rattle.compare.specs.declared.Side.{Side}
+use Rattle.compare.specs.declared.Compared.{Compared}
+use Rattle.compare.specs.declared.Compared.the-variants as compared
 use Rattle.station_c.specs.declared.Check.{Check}
 use Rattle.station_c.specs.declared.Answer.{Answer}
 use Rattle.station_c.specs.declared.Units.{Units}
@@ -29,6 +32,7 @@ use Rattle.station_c.specs.declared.SharedString.{SharedString}
 use Rattle.station_c.specs.declared.Sheet.{Sheet}
 use Rattle.station_c.specs.declared.Cells.{Cells}
 use Rattle.station_c.specs.declared.Filled.{Filled}
+use Rattle.station_c.specs.declared.Comparison.{Comparison}
 use Rattle.station_c.specs.declared.tables.FilledTable.{FilledTable}
 use Rattle.places.specs.declared.Filled as places
 use Rattle.pair.specs.Pair.{pairCorrectionOf, sessionAfter, answerOf as pairAnswer}
@@ -36,7 +40,7 @@ use Rattle.pairanswers.specs.declared.Answer as pairs
 use Rattle.pairanswers.specs.Answers.{answerSeen}
 use Rattle.batch.specs.declared.Filled as batch
 use Rattle.batch.specs.Batch.{Batch, filledSeen as batchSeen}
-use Rattle.station_c.specs.Answers.{checkSeen, judgeSeen, correctSeen, fetchSeen, textSeen, sheetSeen, cellsSeen, filledSeen, tableSeen}
+use Rattle.station_c.specs.Answers.{checkSeen, judgeSeen, correctSeen, fetchSeen, textSeen, sheetSeen, cellsSeen, filledSeen, tableSeen, comparedSeen}
 use Rattle.correction.specs.Correction as corrections
 use Rattle.journal.specs.Journal.{journalledOf, journalAfter}
 use Rattle.pairjournal.specs.Journals.{pairJournalledOf, pairJournalAfter}
@@ -90,6 +94,12 @@ sheets-ended s = seen (sheetSeen s)
 -- f is what the batch gave
 pub filled-seen : (x : Batch) {f : batch.Filled} → f ≡ batchSeen x → _≡_ {A = Filled} (record { cells = f .cells; ended = f .ended; at = f .place .at; part = f .place .part; level = f .place .level }) (filledSeen x)
 filled-seen x i = ap (λ (g : batch.Filled). record { cells = g .cells; ended = g .ended; at = g .place .at; part = g .place .part; level = g .place .level }) i
+
+pub compared-seen : {a r x : Compared} {y : Comparison} → r ≡ a → r ≡ x → y ≡ comparedSeen x → y ≡ comparedSeen a
+compared-seen = seen comparedSeen
+
+pub side-told : (v u : Side) (n o : ℕ) {y : Comparison} → v ≡ u → y ≡ comparedSeen (compared.Refused u n o) → y ≡ comparedSeen (compared.Refused v n o)
+side-told v u n o e h = h ∙ ap (λ (z : Side). comparedSeen (compared.Refused z n o)) (sym e)
 
 pub table-seen : {a r x : places.Filled} {y : FilledTable} → r ≡ a → r ≡ x → y ≡ tableSeen x → y ≡ tableSeen a
 table-seen = seen tableSeen

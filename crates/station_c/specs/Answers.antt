@@ -27,6 +27,10 @@ use Rattle.listing.specs.declared.Start.{Start}
 use Rattle.listing.specs.declared.Start.the-variants as start
 use Rattle.listing.specs.declared.NextSheet.{NextSheet}
 use Rattle.listing.specs.declared.NextSheet.the-variants as nextSheet
+use Rattle.compare.specs.declared.Side.{Side}
+use Rattle.compare.specs.declared.Side.the-variants as side
+use Rattle.compare.specs.declared.Compared.{Compared}
+use Rattle.compare.specs.declared.Compared.the-variants as compared
 use Rattle.station_c.specs.declared.Check.{Check}
 use Rattle.station_c.specs.declared.Answer.{Answer}
 use Rattle.station_c.specs.declared.Units.{Units}
@@ -34,6 +38,7 @@ use Rattle.station_c.specs.declared.SharedString.{SharedString}
 use Rattle.station_c.specs.declared.Sheet.{Sheet}
 use Rattle.station_c.specs.declared.Cells.{Cells}
 use Rattle.station_c.specs.declared.Filled.{Filled}
+use Rattle.station_c.specs.declared.Comparison.{Comparison}
 use Rattle.station_c.specs.declared.tables.FilledTable.{FilledTable}
 use Rattle.places.specs.declared.Filled as places
 use Rattle.places.specs.declared.Filled.the-variants as filled
@@ -101,3 +106,12 @@ newValue kind x index byte = pick (eqb kind 0) (Number x) (pick (eqb kind 1) (Te
 -- how far a batch of cells came
 abbrev pub filledSeen : Batch → Filled
 filledSeen x = record { cells = x .cells; ended = x .ended; at = x .place .at; part = x .place .part; level = x .place .level }
+
+-- of a comparison: how many words, and whether there are more; or the refusal of the first stream, 1, or of the second, 2
+abbrev pub sideSeen : Side → ℕ
+sideSeen side.First = 1
+sideSeen side.Second = 2
+
+abbrev pub comparedSeen : Compared → Comparison
+comparedSeen (compared.Listed n m) = record { number = 0; which = 0; offset = 0; words = n; more = m }
+comparedSeen (compared.Refused x n o) = record { number = n; which = sideSeen x; offset = o; words = 0; more = false }

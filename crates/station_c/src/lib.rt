@@ -1,4 +1,5 @@
 // The five questions as C functions. Each is defined for every argument; a refusal's number is 0 where there is none, and what isn't answered is 0.
+mod comparisons;
 mod journals;
 mod pairs;
 mod sessions;
@@ -50,6 +51,16 @@ pub struct Units {
     pub number: u8,
     pub offset: usize,
     pub units: usize,
+}
+
+// How many words were written and whether there are more; or the refusal's number, not 0, its offset, and whose it is: 1 the first stream's, 2 the second's.
+#[repr(C)]
+pub struct Comparison {
+    pub number: u8,
+    pub which: u8,
+    pub offset: usize,
+    pub words: usize,
+    pub more: bool,
 }
 
 // The next string: its units are at the front of the buffer; 12 where that has fewer units than the string. The place after it.

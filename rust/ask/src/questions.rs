@@ -3,7 +3,7 @@
 use crate::journals;
 use crate::pairs;
 use crate::words::{bytes, number, numbers};
-use station::{Cell, Pair, Refusal, LONGEST_STRING};
+use station::{Cell, Difference, Pair, Refusal, LONGEST_STRING};
 use std::fmt::Write;
 
 /// A question: its name, the words after it, what it asks, and the answer to such words; none where they are not what it takes.
@@ -15,7 +15,7 @@ struct Question {
 }
 
 /// All of them.
-const QUESTIONS: [Question; 11] = [
+const QUESTIONS: [Question; 12] = [
     Question {
         name: "check",
         words: "S",
@@ -74,6 +74,12 @@ const QUESTIONS: [Question; 11] = [
         answer: journals::journal,
     },
     Question {
+        name: "compare",
+        words: "A B",
+        asks: "where two streams differ, by sheet, row and column",
+        answer: compare,
+    },
+    Question {
         name: "profile",
         words: "S",
         asks: "whether the stream is a sensor's session",
@@ -101,7 +107,7 @@ pub fn answer(line: &[u8]) -> Option<String> {
 pub fn help() -> String {
     let mut help = String::from(
         "ask: answers questions about workbook streams, one a line from standard input, words separated by tabs, with one line each.\n\
-         Streams (S) and formula bytes are in hex, - is none, numbers are decimal. A line that is no question gets 'wrong question'.\n\n",
+         Streams (S, A, B) and formula bytes are in hex, - is none, numbers are decimal. A line that is no question gets 'wrong question'.\n\n",
     );
     for question in &QUESTIONS {
         let usage = format!("{} {}", question.name, question.words);
@@ -229,6 +235,29 @@ fn fetch_through(words: &[&[u8]]) -> Option<String> {
     fetched(room, |buffer| {
         station::fetch_through(&stream, &table, index, buffer)
     })
+}
+
+fn compare(words: &[&[u8]]) -> Option<String> {
+    let [first, second] = words else { return None };
+    let (first, second) = (bytes(first)?, bytes(second)?);
+    Some(match station::compare(&first, &second) {
+        Ok(differences) => apart(differences),
+        Err(refused) => refused.line(),
+    })
+}
+
+/// The differences one after another; `same` where there is none.
+fn apart(differences: impl Iterator<Item = Difference>) -> String {
+    let mut line = String::new();
+    for difference in differences {
+        let between = if line.is_empty() { "" } else { " ; " };
+        // Writing to a string never fails.
+        let _ = write!(line, "{between}{difference}");
+    }
+    if line.is_empty() {
+        line.push_str("same");
+    }
+    line
 }
 
 fn profile(words: &[&[u8]]) -> Option<String> {

@@ -1,7 +1,7 @@
 //! ask as another reader meets it: a process that is given lines and answers with lines. What it must answer is written down after document 01, stored
 //! with the cases, or taken from the second reader.
 
-use second_reader::{Between, PairRefusal, Refusal, Value, Whose};
+use second_reader::{Address, Between, Difference, PairRefusal, Refusal, Side, Value, Whose};
 use std::fs;
 use std::io::{BufRead, BufReader, Write};
 use std::path::{Path, PathBuf};
@@ -264,6 +264,93 @@ fn made_sessions() {
     assert!(wanted.iter().any(|line| line.ends_with(" none")));
 }
 
+/// Two stored cases, with what differs written down after their lines; and whose refusal it is.
+#[test]
+fn two_cases_compared() {
+    let cases = Path::new(env!("CARGO_MANIFEST_DIR")).join("../../cases");
+    let read = |name: &str| fs::read(cases.join(name)).expect("a stored case");
+    let of = |name: &str| hex(&read(name));
+    let mut corrected = read("cells.in");
+    let value = second_reader::NewValue::Number(2.5);
+    second_reader::correct(&mut corrected, 0, 0, 1, value).expect("a cell");
+    let (cells, corrected, empty) = (of("cells.in"), hex(&corrected), of("no-cells.in"));
+    let (twice, encrypted) = (of("repeated-address.in"), of("refused-5-encrypted.in"));
+    let mut all = "first 0 0 0 ; first 0 0 1 ; first 0 0 2 ; first 0 0 3 ; first 0 0 4".to_string();
+    all += " ; first 0 1 0 ; first 0 1 1 ; first 0 1 2 ; first 0 1 3 ; first 0 1 255";
+    all += " ; first 0 2 7 ; first 0 2 8 ; first 0 2 9";
+    let asked = [
+        (&cells, &cells, "same"),
+        (&cells, &corrected, "unequal 0 0 1"),
+        (&corrected, &cells, "unequal 0 0 1"),
+        (&encrypted, &"-".to_string(), "refused 5 at 20 of first"),
+        (&cells, &encrypted, "refused 5 at 20 of second"),
+        (&twice, &encrypted, "refused 5 at 20 of second"),
+        (&twice, &twice, "refused 16 at 0 of first"),
+        (&cells, &twice, "refused 16 at 0 of second"),
+    ];
+    let questions = asked.map(|(first, second, _)| format!("compare\t{first}\t{second}"));
+    assert_eq!(answers(&questions), asked.map(|(_, _, answer)| answer));
+    let questions = [
+        format!("compare\t{cells}\t{empty}"),
+        format!("compare\t{empty}\t{cells}"),
+    ];
+    let [first, second] = &answers(&questions)[..] else {
+        panic!("two answers");
+    };
+    assert!(first.starts_with(&all), "{first}");
+    assert_eq!(first.split(" ; ").count(), 17);
+    assert_eq!(*second, first.replace("first", "second"));
+}
+
+fn line_of(difference: &Difference) -> String {
+    let of = |word: &str, at: &Address| format!("{word} {} {} {}", at.sheet, at.row, at.column);
+    match difference {
+        Difference::Name { sheet } => format!("name {sheet}"),
+        Difference::First(at) => of("first", at),
+        Difference::Second(at) => of("second", at),
+        Difference::Unequal(at) => of("unequal", at),
+    }
+}
+
+#[test]
+fn made_revisions() {
+    let mut questions = Vec::new();
+    let mut wanted = Vec::new();
+    for seed in 0..600 {
+        let (first, second) = streams::revisions(seed);
+        questions.push(format!("compare\t{}\t{}", hex(&first), hex(&second)));
+        wanted.push(match second_reader::compare(&first, &second) {
+            Ok(differences) if differences.is_empty() => "same".to_string(),
+            Ok(differences) => differences
+                .iter()
+                .map(line_of)
+                .collect::<Vec<_>>()
+                .join(" ; "),
+            Err(refusal) => {
+                let side = match refusal.side {
+                    Side::First => "first",
+                    Side::Second => "second",
+                };
+                format!("{} of {side}", refused(refusal.refusal))
+            }
+        });
+    }
+    assert_eq!(answers(&questions), wanted);
+    for part in [
+        "same",
+        "name ",
+        "first ",
+        "second ",
+        "unequal ",
+        "refused 16 ",
+        "of first",
+        "of second",
+    ] {
+        let met = wanted.iter().filter(|line| line.contains(part)).count();
+        assert!(met >= 10, "'{part}' was met {met} times");
+    }
+}
+
 /// Each gets its answer, and the lines after it theirs.
 #[test]
 fn lines_that_are_no_question() {
@@ -306,6 +393,11 @@ fn lines_that_are_no_question() {
         "fetch-through\t-\t-\t-\t0",
         "fetch-through\t-\t-\t0\t-",
         "fetch-through\t-\t-\t0\t0\t0",
+        "compare",
+        "compare\t-",
+        "compare\t-\t",
+        "compare\t-\t0",
+        "compare\t-\t-\t-",
         "profile",
         "profile\t",
         "profile\t-\t0",
@@ -1000,6 +1092,7 @@ fn help_and_arguments() {
         "pair T S QUESTION ",
         "pair-fill T S NUMBERS NUMBERS ",
         "journal T S J QUESTION ",
+        "compare A B ",
         "profile S ",
         "cadence S ROW ",
     ] {

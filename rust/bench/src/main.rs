@@ -6,10 +6,12 @@
 //! - `--peers`: beside other readers that the machine has;
 //! - `--places`: a million look-ups of strings through a table of places;
 //! - `--pair`: the questions over a template and a session;
-//! - `--journal`: replay of a journal of 500,000 entries, right and forged.
+//! - `--journal`: replay of a journal of 500,000 entries, right and forged;
+//! - `--compare`: two revisions, and pairs that are dear to compare, against a plain compare.
 
 #![forbid(unsafe_code)]
 
+mod comparing;
 mod compound;
 mod instructions;
 mod journal;
@@ -134,9 +136,10 @@ fn main() -> ExitCode {
         ["--places"] => places::run(),
         ["--pair"] => pair::run(),
         ["--journal"] => journal::run(),
+        ["--compare"] => comparing::run(),
         [WORK, name, file] => return work(name, file),
         _ => {
-            eprintln!("usage: bench [--all | --assert | --peers | --places | --pair | --journal]");
+            eprintln!("usage: bench [--all | --assert | --peers | --places | --pair | --journal | --compare]");
             return ExitCode::from(2);
         }
     };

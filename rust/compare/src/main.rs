@@ -1,13 +1,14 @@
 //! `compare [COUNT [FIRST]]`: asks the proved library and the second reader the same questions about made streams, formulas and corrections, one of
 //! each seed from FIRST (0) on. Every second seed makes a session as sensors write it too, the others a template with its session, and two corrections
-//! of one stream in both orders; half of them make journals of corrections. Answers, offsets, whose they are, and every lent byte, unit and number before and after
-//! must agree. Prints how often each refusal was met; the exit status is 1 where there was a difference, or where a refusal was met fewer than a hundred times in a
-//! run of 100,000 seeds or more.
+//! of one stream in both orders; half of them make journals of corrections, and all of them two revisions to compare. Answers, offsets, whose they are, and every
+//! lent byte, unit, number and word before and after must agree. Prints how often each refusal was met; the exit status is 1 where there was a difference, or where
+//! a refusal was met fewer than a hundred times in a run of 100,000 seeds or more.
 
 mod journals;
 mod orders;
 mod pairs;
 mod places;
+mod revisions;
 
 use std::collections::HashSet;
 use std::fmt::Debug;
@@ -42,6 +43,7 @@ struct Met {
     pairs: pairs::Met,
     orders: orders::Met,
     journals: journals::Met,
+    revisions: revisions::Met,
 }
 
 impl Met {
@@ -49,7 +51,8 @@ impl Met {
         let places = self.places.wanted().into_iter();
         let pairs = places.chain(self.pairs.wanted());
         let orders = pairs.chain(self.orders.wanted());
-        orders.chain(self.journals.wanted()).collect()
+        let journals = orders.chain(self.journals.wanted());
+        journals.chain(self.revisions.wanted()).collect()
     }
 }
 
@@ -335,6 +338,7 @@ impl Comparison {
         if seed % 4 < 2 {
             self.journals(seed);
         }
+        self.revisions(seed);
     }
 }
 
@@ -481,6 +485,7 @@ fn main() -> ExitCode {
         comparison.check(seed, &stream);
         comparison.places(seed, &stream);
         comparison.longest_pair(seed, &stream);
+        comparison.longest_revision(seed, &stream);
     }
     for seed in first..first + count {
         comparison.all(seed);

@@ -28,14 +28,20 @@
 //! - A stream has at most 16,777,216 bytes; a longer one is refused with number 1.
 //! - After a refusal all lent memory holds what it held.
 //! - The library has no state, allocates nothing and takes no lock: any number of threads may ask at the same time, about one stream or many.
-//!   Of this layer [`Strings`] has a buffer on the heap, of [`LONGEST_STRING`] units, and [`StringPlaces`] a table of two numbers for each string.
+//!   Of this layer [`Strings`] has a buffer on the heap, of [`LONGEST_STRING`] units, [`StringPlaces`] a table of two numbers for each string, and
+//!   [`Differences`] one of up to a million words.
 //! - No question needs more than 64 KB of stack, whatever the stream; a [`Cells`], which holds a batch of them, is 4 KB large itself.
 
 #![warn(missing_docs)]
 
+mod comparison;
 pub mod journal;
 pub mod pair;
 mod raw;
+
+pub use comparison::{
+    compare, compare_from, Difference, DifferenceKind, Differences, Listed, Side, SideRefused,
+};
 
 use std::fmt;
 use std::iter::FusedIterator;

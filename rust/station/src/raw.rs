@@ -157,6 +157,15 @@ pub struct PairReplayed {
 }
 
 #[repr(C)]
+pub struct Compared {
+    pub number: u8,
+    pub which: u8,
+    pub offset: usize,
+    pub words: usize,
+    pub more: bool,
+}
+
+#[repr(C)]
 pub struct Profile {
     pub number: u8,
     pub offset: usize,
@@ -269,6 +278,15 @@ extern "C" {
         words: *mut u64,
         room: usize,
     ) -> Filled;
+    pub fn station_compare(
+        first: *const u8,
+        first_length: usize,
+        second: *const u8,
+        second_length: usize,
+        from: u64,
+        words: *mut u64,
+        room: usize,
+    ) -> Compared;
     pub fn station_correct(
         stream: *mut u8,
         length: usize,

@@ -48,6 +48,8 @@ extern "C" {
 struct Desk {
     template: Vec<u8>,
     stream: Vec<u8>,
+    /// What it is compared with.
+    other: Vec<u8>,
     tokens: Vec<u8>,
     units: Vec<u16>,
     words: Vec<u64>,
@@ -100,7 +102,7 @@ fn touched(stack: &mut [u8], question: Question, desk: &mut Desk) -> usize {
 }
 
 /// Each C function. They come in an order in which one has the places that it needs from those before it.
-const QUESTIONS: [(&str, Question); 31] = [
+const QUESTIONS: [(&str, Question); 33] = [
     ("station_version", |_| {
         // SAFETY: it takes nothing.
         black_box(unsafe { raw::station_version() });
@@ -177,6 +179,24 @@ const QUESTIONS: [(&str, Question); 31] = [
         // The first cell that was listed.
         let field = desk.words[2] as usize;
         black_box(unsafe { raw::station_text_at(bytes, length, field, buffer, room) });
+    }),
+    ("station_compare with itself", |desk| {
+        let Desk { stream, words, .. } = desk;
+        let (lent, room) = (words.as_mut_ptr(), words.len());
+        let (bytes, length) = (stream.as_ptr(), stream.len());
+        black_box(unsafe { raw::station_compare(bytes, length, bytes, length, 0, lent, room) });
+    }),
+    ("station_compare with another", |desk| {
+        let Desk {
+            stream,
+            other,
+            words,
+            ..
+        } = desk;
+        let (lent, room) = (words.as_mut_ptr(), words.len());
+        let (bytes, length) = (stream.as_ptr(), stream.len());
+        let (others, size) = (other.as_ptr(), other.len());
+        black_box(unsafe { raw::station_compare(bytes, length, others, size, 0, lent, room) });
     }),
     ("station_correct", |desk| {
         let Desk { stream, .. } = desk;
@@ -317,8 +337,8 @@ fn pair(desk: &Desk) -> (*const u8, usize, *const u8, usize) {
     )
 }
 
-/// The stored cases, sheets in order and in reverse among them, and made streams of each sort: of a million bytes, and of the greatest length the one
-/// with the most sheets, all in reverse.
+/// The stored cases, sheets in order and in reverse among them, and made streams of each sort: of a million bytes, of a hundred thousand those that are dear
+/// to compare, and of the greatest length the one with the most sheets, all in reverse.
 fn named_streams() -> Vec<(String, Vec<u8>)> {
     let folder = Path::new(env!("CARGO_MANIFEST_DIR")).join("../../cases");
     let mut named: Vec<_> = fs::read_dir(folder)
@@ -333,6 +353,10 @@ fn named_streams() -> Vec<(String, Vec<u8>)> {
     assert!(named.iter().any(|(name, _)| name.ends_with("reversed.in")));
     for kind in streams::Big::ALL {
         named.push((format!("{kind:?}"), streams::big(kind, 1_000_000)));
+    }
+    // Cells in any order among them.
+    for kind in streams::Hostile::ALL {
+        named.push((format!("{kind:?}"), streams::hostile(kind, 100_000).0));
     }
     let longest = streams::big(streams::Big::Reversed, 16_777_216);
     named.push(("the longest, reversed".to_string(), longest));
@@ -359,9 +383,11 @@ fn desk(stream: Vec<u8>) -> Desk {
             raw::station_next_sheet(nothing.as_ptr(), 0, 0),
         )
     };
+    let case = Path::new(env!("CARGO_MANIFEST_DIR")).join("../../cases/results.in");
     Desk {
         template: TEMPLATE.to_vec(),
         stream,
+        other: fs::read(case).expect("a case"),
         tokens: deepest_formula(),
         units: vec![0; station::LONGEST_STRING],
         words: vec![0; 512],

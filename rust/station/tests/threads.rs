@@ -1,7 +1,8 @@
 //! Many threads ask at the same time, about one stream and about copies of it: each gets what it would get alone.
 
 use station::pair::{self, Whose};
-use station::{cells, check, correct, fetch, judge, pairs, text, Cell, NewValue, Pair, Refusal};
+use station::{cells, check, compare, correct, fetch, judge, pairs, text};
+use station::{Cell, Difference, NewValue, Pair, Refusal};
 use std::sync::Barrier;
 use std::thread;
 
@@ -13,7 +14,8 @@ const DAY: &[u8] = include_bytes!("../../../cases/day.in");
 const THREADS: usize = 8;
 const TURNS: usize = 200;
 
-/// All questions: counts, sheets with their cells, strings, judgements, a corrected copy, the text of a formula, and the pairs of a session.
+/// All questions: counts, sheets with their cells, strings, judgements, a corrected copy and what differs in it, the text of a formula, and
+/// the pairs of a session.
 fn answers(stream: &[u8]) -> impl PartialEq + std::fmt::Debug {
     let workbook = check(stream).expect("a stream that passes");
     let sheets: Vec<(Vec<u16>, u32)> = workbook
@@ -29,9 +31,11 @@ fn answers(stream: &[u8]) -> impl PartialEq + std::fmt::Debug {
     let judged = [&[0x1E, 0x01, 0x00][..], &[0x1E, 0x01]].map(|tokens| judge(tokens, &[]));
     let mut copy = stream.to_vec();
     let corrected = correct(&mut copy, 0, 0, 1, NewValue::Number(2.5));
+    let changed = compare(stream, &copy).map(Iterator::collect::<Vec<Difference>>);
     let ridden: Result<Vec<Pair>, Refusal> = pairs(RIDE).map(Iterator::collect);
     (
-        sheets, listed, strings, fetched, units, text, judged, corrected, copy, ridden,
+        (sheets, listed, strings, fetched, units),
+        (text, judged, corrected, copy, changed, ridden),
     )
 }
 

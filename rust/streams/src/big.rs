@@ -44,8 +44,8 @@ impl Big {
     ];
 }
 
-const BOF_SIZE: usize = HEADER_SIZE + 16;
-const EOF_SIZE: usize = HEADER_SIZE;
+pub(crate) const BOF_SIZE: usize = HEADER_SIZE + 16;
+pub(crate) const EOF_SIZE: usize = HEADER_SIZE;
 const BOUNDSHEET_SIZE: usize = HEADER_SIZE + 9;
 
 /// A valid stream of exactly so many bytes, at least 200; what has no room for
@@ -69,14 +69,14 @@ pub(crate) fn make(big: Big, bytes: usize) -> Vec<u8> {
     stream
 }
 
-fn append_bof(stream: &mut Vec<u8>, kind: u16) {
+pub(crate) fn append_bof(stream: &mut Vec<u8>, kind: u16) {
     append_header(stream, kind::BOF, 16);
     stream.extend(0x0600u16.to_le_bytes());
     stream.extend(kind.to_le_bytes());
     stream.extend([0; 12]);
 }
 
-fn append_boundsheet(stream: &mut Vec<u8>, position: usize) {
+pub(crate) fn append_boundsheet(stream: &mut Vec<u8>, position: usize) {
     append_header(stream, kind::BOUNDSHEET, 9);
     stream.extend((position as u32).to_le_bytes());
     stream.extend([0, 0, 1, 0, b'a']);
@@ -125,7 +125,7 @@ fn append_table(rng: &mut Rng, stream: &mut Vec<u8>, big: Big, bytes: usize) -> 
 }
 
 /// Writes strings into segments that are as full as can be.
-struct TableWriter<'s> {
+pub(crate) struct TableWriter<'s> {
     stream: &'s mut Vec<u8>,
     /// Where the header of the segment being written stands.
     segment: usize,
@@ -134,7 +134,7 @@ struct TableWriter<'s> {
 }
 
 impl<'s> TableWriter<'s> {
-    fn start(stream: &'s mut Vec<u8>) -> Self {
+    pub fn start(stream: &'s mut Vec<u8>) -> Self {
         let segment = stream.len();
         append_header(stream, kind::SST, 0);
         let counts = stream.len();
@@ -163,11 +163,32 @@ impl<'s> TableWriter<'s> {
     }
 
     /// A string that is not split.
-    fn whole_string(&mut self, bytes: &[u8]) {
+    pub fn whole_string(&mut self, bytes: &[u8]) {
         if self.room() < bytes.len() {
             self.next_segment();
         }
         self.stream.extend(bytes);
+        self.unique += 1;
+    }
+
+    /// A string of one byte a character, split where a segment ends.
+    pub fn narrow_string(&mut self, characters: &[u8]) {
+        if self.room() < 4 {
+            self.next_segment();
+        }
+        self.stream.extend((characters.len() as u16).to_le_bytes());
+        self.stream.push(0);
+        let mut left = characters;
+        loop {
+            let (part, rest) = left.split_at(left.len().min(self.room()));
+            self.stream.extend(part);
+            left = rest;
+            if left.is_empty() {
+                break;
+            }
+            self.next_segment();
+            self.stream.push(0);
+        }
         self.unique += 1;
     }
 
@@ -194,7 +215,7 @@ impl<'s> TableWriter<'s> {
         self.unique += 1;
     }
 
-    fn finish(mut self) -> u32 {
+    pub fn finish(mut self) -> u32 {
         self.close_segment();
         let unique = self.unique.to_le_bytes();
         self.stream[self.counts..][..4].copy_from_slice(&unique);

@@ -12,12 +12,14 @@ mod cells;
 mod contents;
 mod damage;
 mod formula;
+mod hostile;
 mod journals;
 mod jumps;
 mod pairs;
 mod places;
 mod questions;
 mod record;
+mod revisions;
 mod rng;
 mod sessions;
 mod table;
@@ -28,9 +30,11 @@ mod workbook;
 pub use big::Big;
 pub use contents::{CellContents, Content, Contents, FormulaContents, SheetContents};
 pub use formula::Formula;
+pub use hostile::Hostile;
 pub use pairs::{Pair, PairFetch};
 pub use places::Through;
-pub use questions::{Correction, Fetch, NewValue, Text};
+pub use questions::{Batch, Correction, Fetch, NewValue, Text};
+pub use revisions::{Apart, Revisions};
 
 use record::{bof, Book, Record, Tie};
 use rng::Rng;
@@ -203,9 +207,34 @@ pub fn sheet(seed: u64, stream: &[u8]) -> u32 {
     questions::sheet(&mut Rng::for_purpose(seed, 8), stream)
 }
 
+/// Two streams to compare: revisions of one workbook, or any two.
+pub fn revisions(seed: u64) -> (Vec<u8>, Vec<u8>) {
+    let (mut first, mut second) = revisions::any(&mut Rng::for_purpose(seed, 30));
+    first.truncate(LONGEST);
+    second.truncate(LONGEST);
+    (first, second)
+}
+
+/// Two revisions of one workbook that break no rule, and where they differ.
+pub fn valid_revisions(seed: u64) -> Revisions {
+    revisions::valid(&mut Rng::for_purpose(seed, 31))
+}
+
+/// A part to ask of an ascending list of differences, given their words: with
+/// room for more than there are, for fewer, or for none.
+pub fn batch(seed: u64, words: &[u64]) -> Batch {
+    questions::batch(&mut Rng::for_purpose(seed, 32), words)
+}
+
 /// A large valid stream of exactly so many bytes, at least 200.
 pub fn big(kind: Big, bytes: usize) -> Vec<u8> {
     big::make(kind, bytes)
+}
+
+/// Two large valid streams that are dear to compare, of about so many bytes each;
+/// there is no difference between them.
+pub fn hostile(kind: Hostile, bytes: usize) -> (Vec<u8>, Vec<u8>) {
+    (hostile::make(kind, bytes, 0), hostile::make(kind, bytes, 1))
 }
 
 /// A stream at or over the greatest length: 16,777,216 bytes and up to two

@@ -52,6 +52,15 @@ pub struct Text {
     pub units: usize,
 }
 
+/// A part of a list of differences to ask for.
+#[derive(Clone, Copy, Debug, PartialEq, Eq)]
+pub struct Batch {
+    /// The key from which on they are asked for.
+    pub from: u64,
+    /// How many words there is room for.
+    pub room: usize,
+}
+
 /// A cell as it is found by a look at the stream, without any judging.
 #[derive(Clone, Copy)]
 pub(crate) struct Found {
@@ -228,6 +237,35 @@ pub(crate) fn text(rng: &mut Rng, stream: &[u8]) -> Text {
         column,
         units: units(rng),
     }
+}
+
+/// From the start, from a word's key or next to it, from a name's or the end of a
+/// sheet, or anywhere. A word is a key with two bits of kind after it.
+pub(crate) fn batch(rng: &mut Rng, words: &[u64]) -> Batch {
+    const SHEET: u64 = 1 << 33;
+    let word = match words {
+        [] => rng.next(),
+        _ => rng.pick(words),
+    };
+    let key = word / 4;
+    let from = match rng.below(10) {
+        0..=2 => 0,
+        3..=4 => key,
+        5 => key + 1,
+        6 => key.saturating_sub(1),
+        7 => key / SHEET * SHEET + rng.pick(&[0, 1, SHEET / 2 - 1, SHEET / 2, SHEET - 1, SHEET]),
+        8 => rng.pick(&[u64::MAX, u64::MAX / 4, u64::MAX / 4 + 1, 1 << 62, 1 << 63]),
+        _ => rng.next() >> rng.below(64),
+    };
+    let left = words.iter().filter(|word| *word / 4 >= from).count();
+    let room = match rng.below(6) {
+        0 => 0,
+        1 => left,
+        2 => left.saturating_sub(1),
+        3 => rng.below(left + 1),
+        _ => left + rng.below(4),
+    };
+    Batch { from, room }
 }
 
 /// A row that a session has, mostly with one after it, or one that it hasn't.

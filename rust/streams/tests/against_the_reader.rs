@@ -1,7 +1,7 @@
 //! The makers and the second reader, each tested against the other.
 
 use second_reader::{self as reader, FormulaResult, Reading, Refusal, Value};
-use streams::{Content, Contents, NewValue};
+use streams::{Apart, Content, Contents, NewValue, Revisions};
 
 const SEEDS: u64 = 20_000;
 
@@ -103,6 +103,51 @@ fn valid_sessions_are_in_the_profile() {
         let stream = streams::valid_session(seed);
         assert!(stream.len() <= streams::LONGEST);
         assert_eq!(reader::profile(&stream), Ok(()), "seed {seed}");
+    }
+}
+
+fn apart(difference: &reader::Difference) -> Apart {
+    match *difference {
+        reader::Difference::Name { sheet } => Apart::Name(sheet),
+        reader::Difference::First(at) => Apart::First(at.sheet, at.row, at.column),
+        reader::Difference::Second(at) => Apart::Second(at.sheet, at.row, at.column),
+        reader::Difference::Unequal(at) => Apart::Unequal(at.sheet, at.row, at.column),
+    }
+}
+
+/// Two revisions differ where they were made to, however each is written.
+#[test]
+fn revisions_differ_as_they_were_made() {
+    let mut met = [0; 5];
+    for seed in 0..SEEDS {
+        let Revisions {
+            first,
+            second,
+            differences,
+        } = streams::valid_revisions(seed);
+        let found = reader::compare(&first, &second);
+        let found = found.unwrap_or_else(|refused| panic!("seed {seed}: {refused:?}"));
+        let found: Vec<_> = found.iter().map(apart).collect();
+        assert_eq!(found, differences, "seed {seed}");
+        for difference in &differences {
+            met[match difference {
+                Apart::Name(_) => 0,
+                Apart::First(..) => 1,
+                Apart::Second(..) => 2,
+                Apart::Unequal(..) => 3,
+            }] += 1;
+        }
+        met[4] += usize::from(differences.is_empty() && first != second);
+    }
+    assert!(met.iter().all(|count| *count > 500), "{met:?}");
+}
+
+#[test]
+fn hostile_streams_pass_and_are_the_same() {
+    for kind in streams::Hostile::ALL {
+        let (first, second) = streams::hostile(kind, 300_000);
+        assert!(first.len() > 299_000 && first.len() <= 300_000, "{kind:?}");
+        assert_eq!(reader::compare(&first, &second), Ok(Vec::new()), "{kind:?}");
     }
 }
 

@@ -29,7 +29,7 @@ impl Operands {
 /// An option that a command takes.
 pub struct Setting {
     pub name: &'static str,
-    /// What its value is called; empty for an option that stands alone.
+    /// What its value is called; empty for an option that stands alone, and in brackets for one that may, `[=WHEN]`.
     pub value: &'static str,
     pub about: &'static str,
 }
@@ -43,6 +43,25 @@ impl Setting {
     /// An option with a value.
     pub const fn with(name: &'static str, value: &'static str, about: &'static str) -> Self {
         Setting { name, value, about }
+    }
+
+    /// An option with a value that may be left out, and is joined to it by `=` where it isn't.
+    pub const fn joined(name: &'static str, value: &'static str, about: &'static str) -> Self {
+        Setting::with(name, value, about)
+    }
+
+    fn may_stand_alone(&self) -> bool {
+        self.value.starts_with('[')
+    }
+
+    pub fn needs_value(&self) -> bool {
+        !self.value.is_empty() && !self.may_stand_alone()
+    }
+
+    /// The option with its value, as help shows it.
+    pub fn label(&self) -> String {
+        let between = if self.needs_value() { " " } else { "" };
+        format!("{}{between}{}", self.name, self.value)
     }
 }
 
@@ -145,6 +164,7 @@ impl Arguments {
             ("", None) => OsString::new(),
             ("", Some(_)) => return Err(Failure::usage(format!("{name} takes no value"))),
             (_, Some(value)) => value.to_os_string(),
+            (_, None) if setting.may_stand_alone() => OsString::new(),
             (_, None) => match words.next() {
                 Some(value) => value.clone(),
                 None => return Err(Failure::usage(format!("{name} needs a value"))),

@@ -7,8 +7,8 @@ use crate::outcome::{Failure, Output, Status};
 use crate::page::{Page, Part};
 use crate::text::Word;
 use crate::{
-    cadence, check, completions, correct, export, help, journal, judge, lines, manual, profile,
-    report,
+    cadence, check, compare, completions, correct, export, help, journal, judge, lines, manual,
+    profile, report,
 };
 use std::ffi::{OsStr, OsString};
 use std::io::Write;
@@ -30,7 +30,7 @@ pub struct Command {
     pub run: fn(&Arguments, &mut Output) -> Result<Status, Failure>,
 }
 
-pub static COMMANDS: [Command; 16] = [
+pub static COMMANDS: [Command; 17] = [
     check::CHECK,
     lines::SHEETS,
     report::REPORT,
@@ -38,6 +38,7 @@ pub static COMMANDS: [Command; 16] = [
     correct::CORRECT,
     journal::JOURNAL,
     journal::REPLAY,
+    compare::COMPARE,
     lines::LIST,
     lines::STRINGS,
     lines::FETCH,

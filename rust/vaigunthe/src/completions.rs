@@ -160,7 +160,7 @@ fn fish() -> String {
         let seen = format!("complete -c vaigunthe -n '__fish_seen_subcommand_from {name}'");
         for option in options(command) {
             let long = option.name.trim_start_matches('-');
-            let value = if option.value.is_empty() { "" } else { " -r" };
+            let value = if option.needs_value() { " -r" } else { "" };
             let about = quoted(short(option.about));
             let _ = writeln!(script, "{seen} -l {long}{value} -d {about}");
         }

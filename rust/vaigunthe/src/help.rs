@@ -6,7 +6,8 @@ use crate::outcome::{Failure, Output, Status};
 use crate::page::{parts, Page, Part};
 use std::io::{self, Write};
 
-pub const ABOUT: &str = "checks, lists, exports and corrects workbook streams of old Excel files";
+pub const ABOUT: &str =
+    "checks, lists, exports, corrects and compares workbook streams of old Excel files";
 
 const INTRODUCTION: &str = "\
 Reads old Excel workbooks (BIFF8 workbook streams, Excel 97 to 2003), judges
@@ -15,7 +16,7 @@ is proved.
 ";
 
 /// What somebody needs who has just got it.
-const FIRST_STEPS: [(&str, &str); 7] = [
+const FIRST_STEPS: [(&str, &str); 8] = [
     (
         "gsf cat session.xls Workbook > session.bin",
         "take the workbook stream out of an .xls file (gsf is in Debian's package libgsf-bin)",
@@ -37,6 +38,10 @@ const FIRST_STEPS: [(&str, &str); 7] = [
         "vaigunthe correct session.bin 0 B1 number 72.5 --in-place",
         "give one cell of the first sheet a new value",
     ),
+    (
+        "vaigunthe compare old.bin new.bin",
+        "where two revisions differ",
+    ),
     ("vaigunthe help export", "all about one command"),
 ];
 
@@ -54,14 +59,15 @@ files a byte that is no UTF-8 is \\xFF.
 
 const STATUS: &str = "\
 0 answered; 1 refused; 2 wrong usage, or a file that can't be read or written
-(this one wins); 141 standard output was closed before the end.
+(this one wins); 141 standard output was closed before the end. With compare
+--exit-code, 1 says that the two differ, and a refusal is 3.
 ";
 
 const REFUSALS: &str = "\
 A refusal is its number and the offset of what is at fault in the stream or
 formula. What it means is said on standard error. Its bare line, 'refused N at
 O', is on standard output for programs; where data is asked for (sheets, strings,
-export, cadence), nothing is.
+export, cadence, compare without --lines), nothing is.
 ";
 
 pub const HELP_COMMAND: Command = Command {
@@ -108,8 +114,7 @@ pub fn rest(command: &Command) -> Vec<Part> {
         page.push(Part::heading("options"));
     }
     for option in command.options {
-        let label = format!("{} {}", option.name, option.value);
-        page.push(Part::item(label.trim_end(), option.about));
+        page.push(Part::item(option.label(), option.about));
     }
     page.extend(parts(command.details));
     page

@@ -12,14 +12,23 @@ pub type Output = BufWriter<StdoutLock<'static>>;
 /// What a command comes to. Of several the greatest counts.
 #[derive(Clone, Copy, Debug, PartialEq, Eq, PartialOrd, Ord)]
 pub enum Status {
-    Answered = 0,
-    Refused = 1,
-    Failed = 2,
+    Answered,
+    /// What was compared differs, and the status is to say so.
+    Differ,
+    Refused,
+    /// A refusal where the status says whether there are differences.
+    RefusedApart,
+    Failed,
 }
 
 impl From<Status> for ExitCode {
     fn from(status: Status) -> Self {
-        ExitCode::from(status as u8)
+        ExitCode::from(match status {
+            Status::Answered => 0,
+            Status::Differ | Status::Refused => 1,
+            Status::RefusedApart => 3,
+            Status::Failed => 2,
+        })
     }
 }
 

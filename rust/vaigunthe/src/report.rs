@@ -20,7 +20,7 @@ use crate::replace::{self, Identity, Written};
 use crate::source::Checked;
 use crate::target::Target;
 use crate::threads;
-use crate::{input, journal};
+use crate::{compare, input, journal};
 use document::Contents;
 use limits::Limits;
 use marks::Marks;
@@ -40,6 +40,7 @@ pub const REPORT: Command = Command {
         "FILE... [--output OUT] [--full]",
         "FILE... --output-dir DIR [--full]",
         "FILE --journal J [--output OUT] [--full]",
+        "FILE --against OLD [--output OUT] [--full]",
     ],
     operands: Operands::Several("FILE"),
     words: &[],
@@ -63,6 +64,11 @@ pub const REPORT: Command = Command {
             "J",
             "mark the corrections that the journal J of the one FILE keeps: a table of them, and a frame around each corrected cell with what it held",
         ),
+        Setting::with(
+            "--against",
+            "OLD",
+            "mark where the one FILE differs from the old revision OLD: a table of the differences, and a frame around each such cell with what it held; values are written as compare has them",
+        ),
     ],
     examples: &[
         (
@@ -80,6 +86,10 @@ pub const REPORT: Command = Command {
         (
             "vaigunthe report session.bin --journal session.j --output report.html",
             "a page that shows what was corrected",
+        ),
+        (
+            "vaigunthe report corrected.bin --against session.bin --output report.html",
+            "a page that shows what differs from another revision",
         ),
     ],
     details: "\
@@ -113,50 +123,99 @@ fn run(arguments: &Arguments, out: &mut Output) -> Result<Status, Failure> {
         false => &Limits::PARTS,
     };
     let target = Target::of(arguments)?;
-    let marks = match (arguments.option("--journal"), files) {
-        (None, _) => Marks::default(),
-        (Some(journal), [file]) if file != input::STANDARD => match corrected(file, journal)? {
-            Some(marks) => marks,
-            None => return Ok(Status::Refused),
-        },
-        _ => {
-            return Err(Failure::usage(
-                "--journal goes with one file, which isn't standard input",
-            ))
-        }
+    let Some(marks) = marks(arguments, files)? else {
+        return Ok(Status::Refused);
     };
     let marks = &marks;
+    let inputs = || {
+        let beside = BESIDE.iter().filter_map(|name| arguments.option(name));
+        Inputs::of(files.iter().map(OsString::as_os_str).chain(beside))
+    };
     match target {
         Target::Output => one_page(files, limits, marks, |sections| {
             Ok(document::write_sections(sections, out)?)
         }),
         Target::File(name) => {
             let path = Path::new(name);
-            let place = Inputs::of(files).spare(path, replace::Place::of(path))?;
+            let place = inputs().spare(path, replace::Place::of(path))?;
             one_page(files, limits, marks, |sections| {
                 put(path, &place, |out| document::write_sections(sections, out))
             })
         }
-        Target::Folder(name) => pages(files, limits, marks, name),
+        Target::Folder(name) => pages(files, limits, marks, (name, inputs())),
     }
 }
 
-/// The marks of a workbook's corrections; none of them where the page will say that the workbook is refused. A journal that is refused is told, and makes no page.
-fn corrected(file: &OsStr, name: &OsStr) -> Result<Option<Marks>, Failure> {
-    let mut stream = input::Stream::read(file)?;
-    let bytes = journal::read(name)?;
-    let kept = Journal::over(&bytes[..]);
-    let Ok(workbook) = station::check(&stream.bytes) else {
-        return Ok(Some(Marks::default()));
+/// The options by which cells of the one workbook are marked; each has a file.
+const BESIDE: [&str; 2] = ["--journal", "--against"];
+
+/// The marks that are asked for; none of them where the page will say that the workbook is refused. A journal or an old revision that is refused is told, and makes no
+/// page.
+fn marks(arguments: &Arguments, files: &[OsString]) -> Result<Option<Marks>, Failure> {
+    let file = match (BESIDE.iter().find(|name| arguments.has(name)), files) {
+        (None, _) => return Ok(Some(Marks::default())),
+        (Some(_), [file]) if file != input::STANDARD => file,
+        (Some(name), _) => {
+            return Err(Failure::usage(format!(
+                "{name} goes with one file, which isn't standard input"
+            )))
+        }
     };
+    if BESIDE.map(|name| arguments.option(name)) == [Some(OsStr::new(input::STANDARD)); 2] {
+        return Err(Failure::usage("standard input can be read only once"));
+    }
+    let mut stream = input::Stream::read(file)?;
+    let old = arguments.option("--against").map(input::Stream::read);
+    let old = old.transpose()?;
+    let journal = arguments.option("--journal");
+    let journal = journal.map(|name| journal::read(name).map(|bytes| (name, bytes)));
+    let journal = journal.transpose()?;
+    if station::check(&stream.bytes).is_err() {
+        return Ok(Some(Marks::default()));
+    }
+    let (mut list, mut unlisted) = (Vec::new(), None);
+    if let Some(old) = &old {
+        match differing(&stream, old) {
+            Some((marks, more)) => (list, unlisted) = (marks, Some(more)),
+            None => return Ok(None),
+        }
+    }
+    if let Some((name, bytes)) = &journal {
+        match corrected(&mut stream, name, bytes) {
+            Some(marks) => list.extend(marks),
+            None => return Ok(None),
+        }
+    }
+    let marks = Marks::of(list);
+    Ok(Some(match unlisted {
+        Some(unlisted) => marks.compared(unlisted),
+        None => marks,
+    }))
+}
+
+/// The marks of where a workbook differs from an old revision, and how many others there are.
+fn differing(stream: &input::Stream<'_>, old: &input::Stream<'_>) -> Option<(Vec<Mark>, usize)> {
+    match station::compare(&old.bytes, &stream.bytes) {
+        Ok(differences) => Some(compare::marks(differences, [old, stream])),
+        Err(refused) => {
+            compare::explain(refused, [old, stream]);
+            None
+        }
+    }
+}
+
+/// The marks of a workbook's corrections. The replay that judges them may change the stream.
+fn corrected(stream: &mut input::Stream<'_>, name: &OsStr, bytes: &[u8]) -> Option<Vec<Mark>> {
+    let kept = Journal::over(bytes);
+    let workbook = station::check(&stream.bytes).ok()?;
     let names = journal::Names::of(&Checked::Alone(workbook));
     // A replay judges the journal first; what it comes to is of no interest here.
     match kept.replay(&mut stream.bytes, Direction::Backwards) {
         Err(Unreplayed::Refused(refusal)) => {
             complain(format_args!("{}: {refusal}", crate::text::Name(name)));
-            Ok(None)
+            None
         }
-        _ => Ok(Some(Marks::of(journal::marks(&kept, &names)))),
+        _ => Some(journal::marks(&kept, &names)),
     }
 }
 
@@ -204,9 +263,8 @@ fn pages(
     files: &[OsString],
     limits: &Limits,
     marks: &Marks,
-    name: &OsStr,
+    (name, inputs): (&OsStr, Inputs),
 ) -> Result<Status, Failure> {
-    let inputs = Inputs::of(files);
     let folder = Path::new(name);
     let mut progress = Progress::on_standard_error("reporting", files.len());
     let mut lines = Vec::new();
@@ -289,8 +347,8 @@ fn link(page: &str) -> String {
 struct Inputs(HashSet<Identity>);
 
 impl Inputs {
-    fn of(files: &[OsString]) -> Self {
-        let found = files.iter().filter_map(|file| fs::metadata(file).ok());
+    fn of<'f>(files: impl Iterator<Item = &'f OsStr>) -> Self {
+        let found = files.filter_map(|file| fs::metadata(file).ok());
         Inputs(found.map(|found| replace::identity(&found)).collect())
     }
 

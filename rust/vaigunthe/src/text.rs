@@ -43,6 +43,21 @@ impl Display for InLine<'_> {
     }
 }
 
+/// Text in a line, in quotes; a quote in it is written `\\"`.
+pub struct Quoted<'a>(pub &'a [u16]);
+
+impl Display for Quoted<'_> {
+    fn fmt(&self, f: &mut Formatter<'_>) -> fmt::Result {
+        f.write_char('"')?;
+        characters(self.0).try_for_each(|character| match character {
+            Ok('"') => f.write_str("\\\""),
+            Ok(character) => write_in_line(f, character),
+            Err(lone) => write_code(f, lone.into()),
+        })?;
+        f.write_char('"')
+    }
+}
+
 /// The name of a file in a line. Bytes that are no UTF-8 are written as `\xFF`.
 pub struct Name<'a>(pub &'a OsStr);
 

@@ -5,6 +5,7 @@ mod functions;
 mod jumps;
 mod pairs;
 mod places;
+mod revisions;
 mod sessions;
 mod text_results;
 mod tokens;

@@ -86,6 +86,7 @@ fn write_cell<W: Write>(
     write!(out, "}}")
 }
 
+/// What a cell shows, as a JSON value.
 pub fn write_value<W: Write>(shown: &Shown<'_>, out: &mut W) -> io::Result<()> {
     match *shown {
         Shown::Nothing => write!(out, "null"),

@@ -13,7 +13,6 @@ pub enum Reason {
     /// By the journal of corrections.
     Corrected,
     /// From another revision.
-    #[cfg_attr(not(test), allow(dead_code))]
     Differs,
 }
 
@@ -43,6 +42,8 @@ pub struct Marks {
     list: Vec<Mark>,
     /// The places in the list, by sheet.
     by_sheet: BTreeMap<usize, Vec<usize>>,
+    /// Where it was compared with an old revision, how many differences there are that the list hasn't.
+    unlisted: Option<usize>,
 }
 
 impl Marks {
@@ -51,7 +52,19 @@ impl Marks {
         for (place, mark) in list.iter().enumerate() {
             by_sheet.entry(mark.sheet).or_default().push(place);
         }
-        Marks { list, by_sheet }
+        Marks {
+            list,
+            by_sheet,
+            unlisted: None,
+        }
+    }
+
+    /// Of a workbook that was compared with an old revision; so many differences are not in the list.
+    pub fn compared(self, unlisted: usize) -> Self {
+        Marks {
+            unlisted: Some(unlisted),
+            ..self
+        }
     }
 
     pub fn of_sheet(&self, sheet: usize) -> impl Iterator<Item = &Mark> {
@@ -77,21 +90,34 @@ impl Marks {
         ] {
             let marks = self.list.iter().filter(|mark| mark.reason == reason);
             let marks: Vec<_> = marks.collect();
+            let unlisted = match reason {
+                Reason::Corrected => None,
+                Reason::Differs => self.unlisted,
+            };
             if !marks.is_empty() {
-                let (count, class) = (counted(marks.len(), one, more), reason.word());
+                let all = marks.len() + unlisted.unwrap_or(0);
+                let (count, class) = (counted(all, one, more), reason.word());
                 writeln!(
                     out,
                     "<h{level}>{title}</h{level}>\n<p>{count}. In the grids these cells are framed by <span class={class}>{frame}</span>, \
                      with what they were under their values.</p>"
                 )?;
-                write_table(&marks, limits, out)?;
+                write_table(&marks, all, limits, out)?;
+            } else if unlisted.is_some() {
+                writeln!(out, "<h{level}>{title}</h{level}>\n<p>There is none.</p>")?;
             }
         }
         Ok(())
     }
 }
 
-fn write_table<W: Write>(marks: &[&Mark], limits: &Limits, out: &mut W) -> io::Result<()> {
+/// The first marks, and how many of all there are beside them.
+fn write_table<W: Write>(
+    marks: &[&Mark],
+    all: usize,
+    limits: &Limits,
+    out: &mut W,
+) -> io::Result<()> {
     out.write_all(
         b"<div class=scroll role=region aria-label=Cells tabindex=0><table class=list>\n<thead><tr>",
     )?;
@@ -110,9 +136,9 @@ fn write_table<W: Write>(marks: &[&Mark], limits: &Limits, out: &mut W) -> io::R
         out.write_all(b"\n")?;
     }
     out.write_all(b"</tbody></table></div>\n")?;
-    match marks.len().checked_sub(limits.marks) {
-        None | Some(0) => Ok(()),
-        Some(rest) => writeln!(
+    match all - marks.len().min(limits.marks) {
+        0 => Ok(()),
+        rest => writeln!(
             out,
             "<p>{} not shown.</p>",
             counted(rest, "more is", "more are")
@@ -286,5 +312,26 @@ mod tests {
             ..Limits::PARTS
         };
         assert!(written(&none).contains("<p>2 more are not shown.</p>"));
+    }
+
+    /// That nothing differs is said where it was looked for, and what is beyond the list is counted.
+    #[test]
+    fn what_was_compared() {
+        let written = |marks: Marks| {
+            let mut out = Vec::new();
+            marks.write(2, &Limits::FULL, &mut out).expect("memory");
+            String::from_utf8(out).expect("UTF-8")
+        };
+        let heading = "<h2>Differences from the old revision</h2>\n";
+        assert_eq!(written(Marks::default()), "");
+        let none = Marks::default().compared(0);
+        assert_eq!(written(none), format!("{heading}<p>There is none.</p>\n"));
+        let some = || Marks::of(vec![mark(0, 1, Some("1"), Reason::Differs)]);
+        let all = written(some().compared(0));
+        assert!(all.contains(&format!("{heading}<p>1 difference. ")));
+        assert!(!all.contains("not shown"));
+        let first = written(some().compared(2));
+        assert!(first.contains(&format!("{heading}<p>3 differences. ")));
+        assert!(first.contains("<p>2 more are not shown.</p>"));
     }
 }

@@ -36,6 +36,10 @@ fn bash_completes() {
     assert_eq!(offered(&["--v"]), ["--version"]);
     assert_eq!(offered(&["export", "session.bin", "--cs"]), ["--csv"]);
     assert_eq!(offered(&["correct", "--in"]), ["--in-place"]);
+    assert_eq!(
+        offered(&["compare", "session.bin", "--ex"]),
+        ["--exit-code"]
+    );
     assert_eq!(offered(&["correct", "session.bin", "0", "tr"]), ["truth"]);
     assert_eq!(offered(&["check", "sess"]), ["session.bin"]);
     assert_eq!(offered(&["check", "--he"]), ["--help"]);
@@ -48,7 +52,7 @@ fn options(command: &str) -> Vec<String> {
     let page = helped(&["help", command]);
     let lines = page.lines().filter_map(|line| line.strip_prefix("  --"));
     lines
-        .map(|line| line.split(' ').next().expect("a word").to_string())
+        .map(|line| line.split([' ', '[']).next().expect("a word").to_string())
         .collect()
 }
 

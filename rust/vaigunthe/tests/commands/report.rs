@@ -723,7 +723,5 @@ fn progress() {
 #[test]
 fn no_promises() {
     let file: &Path = &case("cells.in");
-    for option in ["--template", "--against"] {
-        run(words!["report", file, option, "x"]).fails("unknown option");
-    }
+    run(words!["report", file, "--template", "x"]).fails("unknown option");
 }

@@ -9,7 +9,7 @@ use std::fs::{self, File};
 use std::io::Read;
 use std::process::{Command, Stdio};
 
-pub const COMMANDS: [&str; 16] = [
+pub const COMMANDS: [&str; 17] = [
     "check",
     "list",
     "sheets",
@@ -21,6 +21,7 @@ pub const COMMANDS: [&str; 16] = [
     "correct",
     "journal",
     "replay",
+    "compare",
     "profile",
     "cadence",
     "help",
@@ -116,6 +117,10 @@ fn examples_are_right() {
             let folder = Folder::new();
             let stream = fs::read(case("cells.in")).expect("an input");
             folder.put("session.bin", &stream);
+            let mut corrected = stream.clone();
+            let value = station::NewValue::Number(2.5);
+            station::correct(&mut corrected, 0, 0, 1, value).expect("a cell");
+            folder.put("corrected.bin", &corrected);
             let ride = fs::read(case("ride.in")).expect("an input");
             folder.put("ride.bin", &ride);
             let results = fs::read(case("results.in")).expect("an input");
@@ -255,8 +260,13 @@ fn a_reader_that_has_seen_enough() {
     let folder = Folder::new();
     let file = folder.put("in", &streams::big(streams::Big::Numbers, 3_000_000));
     let ride = folder.put("ride", &made::session(&[[1, 2, 3]; 10_000]));
-    let calls: [&[std::ffi::OsString]; 8] = [
+    let fewer = folder.put("fewer", &streams::big(streams::Big::Numbers, 200));
+    let calls: [&[std::ffi::OsString]; 12] = [
         words!["report", file, "--full"],
+        words!["compare", file, fewer],
+        words!["compare", file, fewer, "--lines"],
+        words!["compare", file, fewer, "--csv"],
+        words!["compare", file, fewer, "--json"],
         words!["list", file],
         words!["cadence", ride],
         words!["cadence", ride, "--csv"],

@@ -1,0 +1,28 @@
+use Rattle.characters.proofs.TextResults.{read-same}
+use borrow.Author.Needs.{needs}
+use Rattle.characters.proofs.same_result.Statement.{statement}
+use Rattle.characters.proofs.same_result.Tie as tie
+use Rattle.characters.proofs.same_result.Reads as reads
+use Rattle.characters.proofs.same_result.Lts as lts
+use Rattle.characters.proofs.result_chars.Reads as result-chars-reads
+use Rattle.characters.proofs.same_chars.Reads as same-chars-reads
+
+-- src/lib.rt:166:9
+result-chars-requires : tie.Need-result-chars-requires
+result-chars-requires c κs = search needs
+
+-- src/lib.rt:167:9
+result-chars-requires-2 : tie.Need-result-chars-requires-2
+result-chars-requires-2 c κs = search needs
+
+-- src/lib.rt:168:5
+same-chars-requires : tie.Need-same-chars-requires
+same-chars-requires c κs = search needs
+
+-- src/lib.rt:163:1
+returns : tie.Need-returns
+returns c = search read-same
+
+pub same-result-spec : {M : Type 1} → statement M
+same-result-spec =
+    tie.close (tie.spec result-chars-requires result-chars-requires-2 same-chars-requires returns)

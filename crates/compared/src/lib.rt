@@ -1,0 +1,1 @@
+// What holds of every comparison of two revisions. No code.

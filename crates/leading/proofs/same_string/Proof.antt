@@ -1,0 +1,28 @@
+use Rattle.characters.proofs.TextResults.{read-same}
+use borrow.Author.Needs.{needs}
+use Rattle.leading.proofs.same_string.Statement.{statement}
+use Rattle.leading.proofs.same_string.Tie as tie
+use Rattle.leading.proofs.same_string.Reads as reads
+use Rattle.leading.proofs.same_string.Lts as lts
+use Rattle.characters.proofs.same_chars.Reads as same-chars-reads
+use Rattle.leading.proofs.chars_here.Reads as chars-here-reads
+
+-- src/lib.rt:68:9
+chars-here-requires : tie.Need-chars-here-requires
+chars-here-requires c κs = search needs
+
+-- src/lib.rt:69:9
+chars-here-requires-2 : tie.Need-chars-here-requires-2
+chars-here-requires-2 c κs = search needs
+
+-- src/lib.rt:70:5
+same-chars-requires : tie.Need-same-chars-requires
+same-chars-requires c κs = search needs
+
+-- src/lib.rt:54:1
+returns : tie.Need-returns
+returns c = search read-same
+
+pub same-string-spec : {M : Type 1} → statement M
+same-string-spec =
+    tie.close (tie.spec chars-here-requires chars-here-requires-2 same-chars-requires returns)
