@@ -93,11 +93,6 @@ impl<'a> Book<'a> {
         }
     }
 
-    /// How many shared strings the session has, or the one stream that there is.
-    pub fn strings(&self) -> u32 {
-        self.checked.string_count(Whose::Session)
-    }
-
     /// Whether it is of a session and its template.
     pub fn is_pair(&self) -> bool {
         matches!(self.checked, Checked::Over(_))

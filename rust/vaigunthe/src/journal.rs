@@ -4,7 +4,7 @@ mod entry;
 mod kept;
 
 pub use entry::{marks, Names};
-pub use kept::{read, Kept};
+pub use kept::{read, tell_unsettled, Kept};
 
 use crate::arguments::{too_many, Arguments, Operands, Setting};
 use crate::commands::Command;
@@ -144,7 +144,7 @@ fn list(arguments: &Arguments, out: &mut Output) -> Result<Status, Failure> {
         (None, _) => None,
     };
     form.write(journal.entries(), names.as_ref(), out)?;
-    kept::tell_unsettled(name);
+    tell_unsettled(name);
     Ok(Status::Answered)
 }
 
@@ -211,7 +211,7 @@ fn replay(arguments: &Arguments, out: &mut Output) -> Result<Status, Failure> {
             Status::Answered
         }
     };
-    kept::tell_unsettled(journal);
+    tell_unsettled(journal);
     Ok(status)
 }
 

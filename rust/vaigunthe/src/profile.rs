@@ -68,7 +68,7 @@ pub fn explained(stream: &[u8], refusal: Refusal) -> String {
 }
 
 /// The refusal of a stream that is no session.
-const OUTSIDE: u8 = 20;
+pub const OUTSIDE: u8 = 20;
 
 /// What stands at the offset of that refusal. No record of a sheet stands at 0: there no cell is at fault.
 fn broken(stream: &[u8], offset: usize) -> Option<String> {

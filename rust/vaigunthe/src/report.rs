@@ -1,5 +1,6 @@
 //! report: pages for people, on one workbook or many, to be looked at in a browser or printed.
 
+mod beside;
 mod document;
 mod grid;
 mod limits;
@@ -17,15 +18,13 @@ use crate::folder;
 use crate::outcome::{complain, Failure, Output, Status};
 use crate::progress::Progress;
 use crate::replace::{self, Identity, Written};
-use crate::source::Checked;
+use crate::source::TEMPLATE;
 use crate::target::Target;
 use crate::threads;
-use crate::{compare, input, journal};
+use beside::Beside;
 use document::Contents;
 use limits::Limits;
-use marks::Marks;
-pub use marks::{Mark, Reason};
-use station::journal::{Direction, Journal, Unreplayed};
+pub use marks::{Mark, Marked, Reason};
 use std::collections::HashSet;
 use std::ffi::{OsStr, OsString};
 use std::fs;
@@ -37,10 +36,10 @@ pub const REPORT: Command = Command {
     name: "report",
     about: "make a page for browsers and print of each workbook",
     usage: &[
-        "FILE... [--output OUT] [--full]",
-        "FILE... --output-dir DIR [--full]",
-        "FILE --journal J [--output OUT] [--full]",
-        "FILE --against OLD [--output OUT] [--full]",
+        "FILE... [--template T] [--output OUT] [--full]",
+        "FILE... [--template T] --output-dir DIR [--full]",
+        "FILE --journal J [--template T] [--output OUT] [--full]",
+        "FILE --against OLD [--journal J] [--output OUT] [--full]",
     ],
     operands: Operands::Several("FILE"),
     words: &[],
@@ -69,6 +68,7 @@ pub const REPORT: Command = Command {
             "OLD",
             "mark where the one FILE differs from the old revision OLD: a table of the differences, and a frame around each such cell with what it held; values are written as compare has them",
         ),
+        TEMPLATE,
     ],
     examples: &[
         (
@@ -91,14 +91,26 @@ pub const REPORT: Command = Command {
             "vaigunthe report corrected.bin --against session.bin --output report.html",
             "a page that shows what differs from another revision",
         ),
+        (
+            "vaigunthe report day.bin --template template.bin --output report.html",
+            "a page on a session over its template",
+        ),
     ],
     details: "\
-Of each workbook the page has its name, length and SHA-256, its sheets, strings
-and cells, and each sheet as a grid: numbers, texts, truths, errors, blanks, the
-results of formulas with their kinds, and dates as dates, with their numbers
-under the pointer. Of a session as sensors write it (vaigunthe help profile)
-come its totals in words and its cadence over time as a picture. Of a stream
-that is refused it has the refusal in words and the bytes around its offset.
+Of each workbook the page has its name, length and SHA-256, and those of what is
+read with it, its sheets, strings and cells, and each sheet as a grid: numbers,
+texts, truths, errors, blanks, the results of formulas with their kinds, and
+dates as dates, with their numbers under the pointer. Of a session as sensors
+write it (vaigunthe help profile) come its totals in words and its cadence over
+time as a picture. Of a stream that is refused it has the refusal in words and
+the bytes around its offset.
+
+With a journal the page says whether the workbook holds what the corrections
+wrote, with an old revision which sheets only one of them has. A journal or an
+old revision that is refused makes no page. With a template each sheet says
+whose it is, the session's or the template's, and so does a refusal; whether it
+is a sensor's session is asked of the session alone. Two streams are compared
+each by itself, so --against doesn't go with --template.
 
 A page is one file. Nothing on it is fetched or run: it opens offline, with
 scripts switched off, in a light or dark scheme, and prints. All text from files
@@ -123,99 +135,26 @@ fn run(arguments: &Arguments, out: &mut Output) -> Result<Status, Failure> {
         false => &Limits::PARTS,
     };
     let target = Target::of(arguments)?;
-    let Some(marks) = marks(arguments, files)? else {
+    let Some(beside) = &Beside::read(arguments, files)? else {
         return Ok(Status::Refused);
     };
-    let marks = &marks;
     let inputs = || {
-        let beside = BESIDE.iter().filter_map(|name| arguments.option(name));
+        let beside = Beside::OPTIONS.iter();
+        let beside = beside.filter_map(|name| arguments.option(name));
         Inputs::of(files.iter().map(OsString::as_os_str).chain(beside))
     };
     match target {
-        Target::Output => one_page(files, limits, marks, |sections| {
+        Target::Output => one_page(files, limits, beside, |sections| {
             Ok(document::write_sections(sections, out)?)
         }),
         Target::File(name) => {
             let path = Path::new(name);
             let place = inputs().spare(path, replace::Place::of(path))?;
-            one_page(files, limits, marks, |sections| {
+            one_page(files, limits, beside, |sections| {
                 put(path, &place, |out| document::write_sections(sections, out))
             })
         }
-        Target::Folder(name) => pages(files, limits, marks, (name, inputs())),
-    }
-}
-
-/// The options by which cells of the one workbook are marked; each has a file.
-const BESIDE: [&str; 2] = ["--journal", "--against"];
-
-/// The marks that are asked for; none of them where the page will say that the workbook is refused. A journal or an old revision that is refused is told, and makes no
-/// page.
-fn marks(arguments: &Arguments, files: &[OsString]) -> Result<Option<Marks>, Failure> {
-    let file = match (BESIDE.iter().find(|name| arguments.has(name)), files) {
-        (None, _) => return Ok(Some(Marks::default())),
-        (Some(_), [file]) if file != input::STANDARD => file,
-        (Some(name), _) => {
-            return Err(Failure::usage(format!(
-                "{name} goes with one file, which isn't standard input"
-            )))
-        }
-    };
-    if BESIDE.map(|name| arguments.option(name)) == [Some(OsStr::new(input::STANDARD)); 2] {
-        return Err(Failure::usage("standard input can be read only once"));
-    }
-    let mut stream = input::Stream::read(file)?;
-    let old = arguments.option("--against").map(input::Stream::read);
-    let old = old.transpose()?;
-    let journal = arguments.option("--journal");
-    let journal = journal.map(|name| journal::read(name).map(|bytes| (name, bytes)));
-    let journal = journal.transpose()?;
-    if station::check(&stream.bytes).is_err() {
-        return Ok(Some(Marks::default()));
-    }
-    let (mut list, mut unlisted) = (Vec::new(), None);
-    if let Some(old) = &old {
-        match differing(&stream, old) {
-            Some((marks, more)) => (list, unlisted) = (marks, Some(more)),
-            None => return Ok(None),
-        }
-    }
-    if let Some((name, bytes)) = &journal {
-        match corrected(&mut stream, name, bytes) {
-            Some(marks) => list.extend(marks),
-            None => return Ok(None),
-        }
-    }
-    let marks = Marks::of(list);
-    Ok(Some(match unlisted {
-        Some(unlisted) => marks.compared(unlisted),
-        None => marks,
-    }))
-}
-
-/// The marks of where a workbook differs from an old revision, and how many others there are.
-fn differing(stream: &input::Stream<'_>, old: &input::Stream<'_>) -> Option<(Vec<Mark>, usize)> {
-    match station::compare(&old.bytes, &stream.bytes) {
-        Ok(differences) => Some(compare::marks(differences, [old, stream])),
-        Err(refused) => {
-            compare::explain(refused, [old, stream]);
-            None
-        }
-    }
-}
-
-/// The marks of a workbook's corrections. The replay that judges them may change the stream.
-fn corrected(stream: &mut input::Stream<'_>, name: &OsStr, bytes: &[u8]) -> Option<Vec<Mark>> {
-    let kept = Journal::over(bytes);
-    let workbook = station::check(&stream.bytes).ok()?;
-    let names = journal::Names::of(&Checked::Alone(workbook));
-    // A replay judges the journal first; what it comes to is of no interest here.
-    match kept.replay(&mut stream.bytes, Direction::Backwards) {
-        Err(Unreplayed::Refused(refusal)) => {
-            complain(format_args!("{}: {refusal}", crate::text::Name(name)));
-            None
-        }
-        _ => Some(journal::marks(&kept, &names)),
+        Target::Folder(name) => pages(files, limits, beside, (name, inputs())),
     }
 }
 
@@ -223,14 +162,14 @@ fn corrected(stream: &mut input::Stream<'_>, name: &OsStr, bytes: &[u8]) -> Opti
 fn one_page(
     files: &[OsString],
     limits: &Limits,
-    marks: &Marks,
+    beside: &Beside<'_>,
     write: impl FnOnce(Vec<Section>) -> Result<(), Failure>,
 ) -> Result<Status, Failure> {
     let level = if files.len() == 1 { 1 } else { 2 };
     let mut progress = Progress::on_standard_error("reporting", files.len());
     let work = |place: usize, file: &OsString| {
         let number = place + 1;
-        Section::of(file, Place { number, level }, limits, marks)
+        Section::of(file, Place { number, level }, limits, beside)
     };
     let sections = threads::map(files, work, |done| progress.show(done));
     progress.clear();
@@ -262,7 +201,7 @@ const INDEX: &str = "index.html";
 fn pages(
     files: &[OsString],
     limits: &Limits,
-    marks: &Marks,
+    beside: &Beside<'_>,
     (name, inputs): (&OsStr, Inputs),
 ) -> Result<Status, Failure> {
     let folder = Path::new(name);
@@ -274,7 +213,7 @@ fn pages(
             number: 1,
             level: 1,
         };
-        let work = |_, file: &OsString| Section::of(file, place, limits, marks);
+        let work = |_, file: &OsString| Section::of(file, place, limits, beside);
         let sections = threads::map(batch, work, |done| progress.show(before + done));
         progress.clear();
         for (number, section) in (before + 1..).zip(sections) {

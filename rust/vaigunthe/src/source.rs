@@ -64,11 +64,7 @@ impl<'n> Source<'n> {
     }
 
     pub fn check(&self) -> Result<Checked<'_>, Refused> {
-        let session = &self.session.bytes;
-        match self.lent() {
-            None => Ok(Checked::Alone(station::check(session)?)),
-            Some(template) => Ok(Checked::Over(pair::check(template, session)?)),
-        }
+        Checked::of(self.lent(), &self.session.bytes)
     }
 
     /// Whether there is a sheet of this number, as the library has it.
@@ -157,14 +153,15 @@ impl<'n> Source<'n> {
         journal: &Journal<impl AsRef<[u8]>>,
         direction: Direction,
     ) -> Result<u32, Unreplayed<Refused>> {
-        let session = &mut self.session.bytes;
-        replayed(self.template.as_ref(), session, journal, direction)
+        let template = self.template.as_ref();
+        let template = template.map(|template| &template.bytes[..]);
+        replay(template, &mut self.session.bytes, journal, direction)
     }
 
     /// Whether a journal can be replayed; nothing changes.
     pub fn replays(&self, journal: &Journal<impl AsRef<[u8]>>, direction: Direction) -> bool {
         let mut copy = self.session.bytes.clone();
-        replayed(self.template.as_ref(), &mut copy, journal, direction).is_ok()
+        replay(self.lent(), &mut copy, journal, direction).is_ok()
     }
 
     /// One of the streams.
@@ -219,8 +216,9 @@ impl<'n> Source<'n> {
     }
 }
 
-fn replayed(
-    template: Option<&Stream<'_>>,
+/// Replays a journal on a stream alone, or on a session over its template.
+pub fn replay(
+    template: Option<&[u8]>,
     session: &mut [u8],
     journal: &Journal<impl AsRef<[u8]>>,
     direction: Direction,
@@ -232,7 +230,7 @@ fn replayed(
                 Unreplayed::Refused(refusal) => Unreplayed::Refused(refusal.into()),
                 Unreplayed::Stopped { number, entry } => Unreplayed::Stopped { number, entry },
             }),
-        Some(template) => journal.replay_over(&template.bytes, session, direction),
+        Some(template) => journal.replay_over(template, session, direction),
     }
 }
 
@@ -244,6 +242,14 @@ pub enum Checked<'a> {
 }
 
 impl<'a> Checked<'a> {
+    /// Of a stream alone, or of a session over its template.
+    pub fn of(template: Option<&'a [u8]>, session: &'a [u8]) -> Result<Self, Refused> {
+        match template {
+            None => Ok(Checked::Alone(station::check(session)?)),
+            Some(template) => Ok(Checked::Over(pair::check(template, session)?)),
+        }
+    }
+
     /// The stream that an answer names: none where there is only one.
     pub fn named(&self, whose: Whose) -> Option<Whose> {
         match self {

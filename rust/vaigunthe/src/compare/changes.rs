@@ -62,6 +62,17 @@ impl<'a> Revisions<'a> {
             new: Revision::read(new),
         }
     }
+
+    /// The numbers and names of the sheets that only the old one has, and of those that only the new one has.
+    pub fn alone(&self) -> [Vec<(usize, Vec<u16>)>; 2] {
+        let beyond = |one: &Revision<'_>, other: &Revision<'_>| {
+            let sheets = one.sheets.iter().enumerate().skip(other.sheets.len());
+            sheets
+                .map(|(number, sheet)| (number, sheet.name_units().collect()))
+                .collect()
+        };
+        [beyond(&self.old, &self.new), beyond(&self.new, &self.old)]
+    }
 }
 
 /// What a cell holds: the name of its kind, and its value.

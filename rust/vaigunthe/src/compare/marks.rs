@@ -3,30 +3,18 @@
 use super::changes::{Between, Change, Changes, Held, Revisions};
 use super::lines::Value;
 use crate::input::Stream;
-use crate::report::{Mark, Reason};
+use crate::report::{Mark, Marked, Reason};
 use station::Differences;
 
-/// So many characters are kept of all marks together: thousands of cells may differ that have one long text.
-const MOST: usize = 1 << 24;
-
-/// What a mark takes beside its characters.
-const COST: usize = 64;
-
-/// A mark for each difference, the first where there are very many, and how many others there are.
-pub fn marks(differences: Differences<'_>, [old, new]: [&Stream<'_>; 2]) -> (Vec<Mark>, usize) {
+/// A mark for each difference, and the sheets that only one of the revisions has.
+pub fn marks(differences: Differences<'_>, [old, new]: [&Stream<'_>; 2]) -> Marked {
     let revisions = Revisions::read(&old.bytes, &new.bytes);
     let mut changes = Changes::of(&revisions, differences);
-    let (mut marks, mut cost) = (Vec::new(), 0);
-    while cost < MOST {
-        let Some(change) = changes.next() else {
-            break;
-        };
-        let mark = mark(&change);
-        let texts = [&mark.old, &mark.new].map(|text| text.as_ref().map_or(0, Vec::len));
-        cost += COST + texts[0] + texts[1];
-        marks.push(mark);
-    }
-    (marks, changes.left())
+    let mut marked = Marked::by(Reason::Differs);
+    marked.take(changes.by_ref().map(|change| mark(&change)));
+    marked.more = changes.left();
+    marked.alone = revisions.alone();
+    marked
 }
 
 fn mark(change: &Change<'_>) -> Mark {

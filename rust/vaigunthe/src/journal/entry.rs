@@ -6,7 +6,7 @@ use crate::book::Shown;
 use crate::errors;
 use crate::export::{field, write_shown, write_value};
 use crate::outcome::{Failure, Output};
-use crate::report::{Mark, Reason};
+use crate::report::{Mark, Marked, Reason};
 use crate::source::Checked;
 use crate::text::{InJson, InLine};
 use station::journal::{Entries, Entry, Journal, Old};
@@ -213,7 +213,7 @@ impl Listed<'_, '_> {
 }
 
 /// The marks of a report: one for each correction, in the order made.
-pub fn marks(journal: &Journal<&[u8]>, names: &Names) -> Vec<Mark> {
+pub fn marks(journal: &Journal<&[u8]>, names: &Names) -> Marked {
     let mark = |entry: Entry<'_>| Mark {
         sheet: entry.sheet() as usize,
         address: Some((entry.row().into(), entry.column().into())),
@@ -221,7 +221,11 @@ pub fn marks(journal: &Journal<&[u8]>, names: &Names) -> Vec<Mark> {
         new: Some(units(&new(&entry, Some(names)).1)),
         reason: Reason::Corrected,
     };
-    journal.entries().map(mark).collect()
+    let mut entries = journal.entries();
+    let mut marked = Marked::by(Reason::Corrected);
+    marked.take(entries.by_ref().map(mark));
+    marked.more = entries.len();
+    marked
 }
 
 /// What is shown, as characters.

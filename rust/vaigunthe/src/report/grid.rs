@@ -6,8 +6,9 @@ use super::tracks::{tracks, Track, FEW};
 use super::value;
 use crate::address::letters;
 use crate::bits::Bits;
-use crate::book::Book;
+use crate::book::{Book, BookSheet};
 use crate::figures::{counted, grouped};
+use station::pair::Whose;
 use station::{Cell, Sheet};
 use std::collections::BTreeMap;
 use std::io::{self, Write};
@@ -32,6 +33,7 @@ struct Written {
 /// The rows of a sheet that are shown, with one cell for an address: of several the last listed.
 pub struct Grid<'g, 'a> {
     book: &'g Book<'a>,
+    whose: Whose,
     limits: &'g Limits,
     /// All rows with a cell or a mark.
     filled: Vec<usize>,
@@ -56,7 +58,7 @@ fn column(cell: &Cell) -> usize {
 impl<'g, 'a> Grid<'g, 'a> {
     pub fn of(
         book: &'g Book<'a>,
-        sheet: &Sheet<'_>,
+        page: &BookSheet<'_>,
         marks: impl Iterator<Item = &'g Mark>,
         limits: &'g Limits,
     ) -> Self {
@@ -70,9 +72,10 @@ impl<'g, 'a> Grid<'g, 'a> {
                 _ => {}
             }
         }
-        let (filled, width) = survey(sheet, by_address.keys());
+        let (filled, width) = survey(&page.sheet, by_address.keys());
         let mut grid = Grid {
             book,
+            whose: page.whose,
             limits,
             shown: first_and_marked(&filled, &by_address, limits),
             filled,
@@ -82,7 +85,7 @@ impl<'g, 'a> Grid<'g, 'a> {
             width,
             marks: by_address,
         };
-        grid.take_cells(sheet);
+        grid.take_cells(&page.sheet);
         grid.columns = grid.used_columns();
         grid
     }
@@ -117,13 +120,21 @@ impl<'g, 'a> Grid<'g, 'a> {
         tracks(used.numbers())
     }
 
-    /// By this class it is set on paper.
-    pub fn class(&self) -> &'static str {
+    /// By this class it is set on paper. A long sensor's session, which has no wide cell, is set in columns.
+    pub fn class(&self, is_session: bool) -> Option<&'static str> {
         match self.columns.len() {
-            0..WIDE => "",
-            WIDE..WIDEST => " class=wide",
-            _ => " class=widest",
+            0..WIDE if is_session && self.marks.is_empty() && self.shown.len() > LINES => {
+                Some("columns")
+            }
+            0..WIDE => None,
+            WIDE..WIDEST => Some("wide"),
+            _ => Some("widest"),
         }
+    }
+
+    /// Whether there is a cell or a mark.
+    pub fn has_rows(&self) -> bool {
+        !self.filled.is_empty()
     }
 
     /// Writes as many rows as the cost allows, and says what it has left.
@@ -228,7 +239,7 @@ impl<'g, 'a> Grid<'g, 'a> {
                 (cell, marks) => {
                     write_missing(missing, out)?;
                     missing = 0;
-                    cost += value::write(self.book, cell, marks, self.limits, out)?;
+                    cost += value::write((self.book, self.whose), cell, marks, self.limits, out)?;
                 }
             }
         }

@@ -5,7 +5,7 @@ pub struct Limits {
     pub sheets: usize,
     /// Rows of a sheet that have cells; rows with a marked cell are shown beside them.
     pub rows: usize,
-    /// What the cells of a workbook cost together, by their characters.
+    /// What the cells of a workbook cost together, by their characters, and what a table of marks may cost.
     pub cost: usize,
     /// Units of a text.
     pub text: usize,
@@ -36,3 +36,6 @@ impl Limits {
         bytes: 1 << 28,
     };
 }
+
+/// So many characters are kept of all marks of one reason, and the others are counted: thousands of cells may have been corrected, or differ, that have one long text.
+pub const KEPT: usize = 1 << 24;

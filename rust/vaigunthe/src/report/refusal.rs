@@ -2,7 +2,7 @@
 
 use crate::figures::grouped;
 use crate::text::WordsInPage;
-use station::Refusal;
+use station::pair::Refused;
 use std::io::{self, Write};
 
 /// Bytes in a line.
@@ -14,16 +14,19 @@ const AFTER: usize = 5;
 /// These are given at the header of a record, where they aren't given at the end.
 const AT_A_RECORD: std::ops::RangeInclusive<u8> = 2..=10;
 
-pub fn write<W: Write>(stream: &[u8], refusal: Refusal, level: u8, out: &mut W) -> io::Result<()> {
-    let offset = refusal.offset;
+/// Of the stream that is refused, a session's or a template's too.
+pub fn write<W: Write>(stream: &[u8], refused: Refused, level: u8, out: &mut W) -> io::Result<()> {
+    let (refusal, offset) = (refused.refusal, refused.refusal.offset);
+    let whose = refused.whose.map(|whose| format!(" of the {whose}"));
     writeln!(
         out,
-        "<h{level}>Refused</h{level}>\n<p class=refused><strong>Refused {} at {}</strong>: {}.</p>",
+        "<h{level}>Refused</h{level}>\n<p class=refused><strong>Refused {} at {}{}</strong>: {}.</p>",
         refusal.number,
         grouped(offset as f64, 0),
+        whose.unwrap_or_default(),
         WordsInPage(refusal.meaning())
     )?;
-    writeln!(out, "<p>{}</p>", WordsInPage(&place(stream, refusal)))?;
+    writeln!(out, "<p>{}</p>", WordsInPage(&place(stream, refused)))?;
     match stream.is_empty() {
         true => Ok(()),
         false => write_bytes(stream, offset, out),
@@ -31,18 +34,20 @@ pub fn write<W: Write>(stream: &[u8], refusal: Refusal, level: u8, out: &mut W) 
 }
 
 /// What stands at the offset.
-fn place(stream: &[u8], refusal: Refusal) -> String {
-    let offset = refusal.offset;
+fn place(stream: &[u8], refused: Refused) -> String {
+    let (refusal, offset) = (refused.refusal, refused.refusal.offset);
+    let called = refused.whose.map(|whose| whose.to_string());
+    let called = called.as_deref().unwrap_or("stream");
     let Some(byte) = stream.get(offset) else {
         return match offset {
-            0 => "The stream has no byte.".to_string(),
+            0 => format!("The {called} has no byte."),
             _ => format!(
-                "The stream ends there: it has {} bytes.",
+                "The {called} ends there: it has {} bytes.",
                 grouped(offset as f64, 0)
             ),
         };
     };
-    let marked = format!("The marked byte, {byte:02X}, is byte {offset:#X} of the stream.");
+    let marked = format!("The marked byte, {byte:02X}, is byte {offset:#X} of the {called}.");
     let header: Option<&[u8; 4]> = stream[offset..].first_chunk();
     match header {
         Some(&[a, b, c, d]) if AT_A_RECORD.contains(&refusal.number) => {

@@ -14,13 +14,13 @@ const COST: usize = 8;
 
 /// Writes a cell with its marks and says what it costs. A mark may stand where no cell is.
 pub fn write<W: Write>(
-    book: &Book<'_>,
+    (book, whose): (&Book<'_>, Whose),
     cell: Option<&Cell>,
     marks: &[&Mark],
     limits: &Limits,
     out: &mut W,
 ) -> io::Result<usize> {
-    let shown = cell.map(|cell| book.shown(Whose::Session, cell));
+    let shown = cell.map(|cell| book.shown(whose, cell));
     out.write_all(b"<td")?;
     write_classes(shown.as_ref().map(|(_, shown)| shown), marks, out)?;
     match &shown {
@@ -38,7 +38,7 @@ pub fn write<W: Write>(
         }
         None => out.write_all(b"<i>no cell</i>")?,
     }
-    write_notes(marks, limits, out)?;
+    cost += write_notes(marks, limits, out)?;
     // White space in a text counts: what comes next is no part of it.
     if let Some((_, Shown::Text(_))) = shown {
         out.write_all(b"</td>")?;

@@ -1,11 +1,12 @@
 //! The pages of report in a browser, where the machine has one: what it makes of them, and what it complains of. A page that holds them asks them what they are
 //! when they are shown.
 
-use crate::made;
+use crate::made::{self, units, Sheet};
 use crate::parse::{json, Json};
-use crate::report::hostile;
+use crate::report::{hostile, HOSTILE};
 use crate::tool::{case, finish, run, Folder};
 use crate::words;
+use second_reader::NewValue;
 use std::collections::BTreeSet;
 use std::ffi::OsString;
 use std::fs;
@@ -21,7 +22,7 @@ struct Seen {
 }
 
 /// None where the machine has no browser.
-fn browse(folder: &Folder, page: &Path) -> Option<Seen> {
+fn browser(folder: &Folder) -> Option<Command> {
     let there = |name: &&&str| Command::new(name).arg("--version").output().is_ok();
     let Some(name) = NAMES.iter().find(there) else {
         eprintln!("no chromium on this machine: the page was not rendered");
@@ -37,19 +38,38 @@ fn browse(folder: &Folder, page: &Path) -> Option<Seen> {
         "--allow-file-access-from-files",
         "--virtual-time-budget=10000",
         "--window-size=1400,1000",
-        "--dump-dom",
     ]);
     let own = |name: &str| format!("{name}={}", folder.at("browser").display());
     browser
         .arg(own("--user-data-dir"))
         .env("HOME", folder.at("browser"));
-    let ran = finish(browser.arg(format!("file://{}", page.display())), b"");
+    Some(browser)
+}
+
+/// None where the machine has no browser.
+fn browse(folder: &Folder, page: &Path) -> Option<Seen> {
+    let mut browser = browser(folder)?;
+    let page = format!("file://{}", page.display());
+    let ran = finish(browser.args(["--dump-dom", &page]), b"");
     assert_eq!(ran.status, Some(0), "{}", ran.err);
     let console = ran.err.lines().filter(|line| line.contains(":CONSOLE"));
     Some(Seen {
         page: ran.text().to_string(),
         console: console.map(str::to_string).collect(),
     })
+}
+
+/// How many sheets of paper a page takes; none where the machine has no browser.
+fn print(folder: &Folder, page: &str) -> Option<usize> {
+    let mut browser = browser(folder)?;
+    let printed = folder.at("printed.pdf");
+    browser.arg(format!("--print-to-pdf={}", printed.display()));
+    let page = format!("file://{}", folder.at(page).display());
+    let ran = finish(browser.arg(page), b"");
+    assert_eq!(ran.status, Some(0), "{}", ran.err);
+    let printed = fs::read(printed).expect("a PDF");
+    let starts = |at: usize| printed[at..].starts_with(b"/Type /Page\n");
+    Some((0..printed.len()).filter(|at| starts(*at)).count())
 }
 
 /// Of long grids the first hundred rows are told, and of the others each of these.
@@ -73,6 +93,12 @@ addEventListener('load', () => {
     headings: [...shown.querySelectorAll('h1,h2,h3')].map(one => one.localName + ' ' + one.textContent),
     aligned: Object.fromEntries([...shown.querySelectorAll('table.grid td')].map(cell =>
       [cell.className, frame.getComputedStyle(cell).textAlign])),
+    lists: [...shown.querySelectorAll('table.list')].map(list => [...list.rows].map(row => [...row.cells].map(one => one.textContent))),
+    marks: [...shown.querySelectorAll('table.grid .corrected, table.grid .differs')].map(cell => [
+      [...cell.classList].filter(name => name.length > 1).join(' '), frame.getComputedStyle(cell).outlineStyle, cell.textContent]),
+    notes: [...shown.querySelectorAll('article p')].map(one => one.textContent),
+    lent: [...shown.querySelectorAll('.lent')].map(one => frame.getComputedStyle(one).borderLeftStyle + ' ' + one.querySelector('h2, h3').textContent),
+    broken: [...shown.querySelectorAll('a')].filter(one => one.hash && !shown.getElementById(one.hash.slice(1))).map(one => one.hash),
     page: shown.documentElement.scrollWidth,
     frame: shown.documentElement.clientWidth,
     fetched: frame.performance.getEntriesByType('resource').length,
@@ -277,6 +303,167 @@ fn hostile_texts_are_texts() {
         heading.as_deref(),
         Some("h2 <script>alert(1)<\\u{7}script>\"'><img src=x onerror=alert(1)>")
     );
+}
+
+/// A long session is set in columns, and a sheet of paper has about 174 of its rows; in one column it had 58.
+#[test]
+fn long_sessions_on_paper() {
+    let folder = Folder::new();
+    let rows: Vec<_> = (0..3_000).map(|row| [row * 700, row, row]).collect();
+    let file = folder.put("long.bin", &made::session(&rows));
+    report(&folder, words![file], &["--full"]);
+    let Some(sheets) = print(&folder, "report.html") else {
+        return;
+    };
+    assert!((15..=30).contains(&sheets), "{sheets} sheets of paper");
+}
+
+/// A folder with what pages with marks are made of. The texts and names are these, or plain ones.
+fn marked(texts: &[Vec<u16>], name: &str) -> (Folder, [Vec<OsString>; 2]) {
+    let folder = Folder::new();
+    let sheet = |name: &[u16], records| Sheet {
+        kind: made::WORKSHEET,
+        name: name.iter().copied().take(31).collect(),
+        records,
+    };
+    let labels = |first: u32| -> Vec<_> {
+        let label = |row: u16| made::text(row, 0, (first + u32::from(row)) % texts.len() as u32);
+        (0..texts.len() as u16).map(label).collect()
+    };
+    // A session without strings over a template, and the journal of a correction of its second row.
+    let template = [sheet(&texts[0], vec![]), sheet(&texts[1], labels(0))];
+    let template = made::book(texts, &template);
+    let mut session = made::book_of(&[], &[sheet(&texts[2], labels(0))]);
+    let mut journal = vec![0; 16 + 28];
+    second_reader::pair_start_journal(&template, &session, &mut journal).expect("it passes");
+    let value = NewValue::Text(2);
+    second_reader::pair_correct_journalled(&template, &mut session, &mut journal, 0, 1, 0, value)
+        .expect("granted");
+    // Two revisions with every row another text, the first sheet another name, and one sheet less.
+    let old = [sheet(&texts[0], labels(0)), sheet(&texts[1], vec![])];
+    let new = [sheet(&texts[1], labels(1))];
+    let put = |kind: &str, bytes: &[u8]| folder.put(format!("{kind}{name}"), bytes);
+    let [session, template] = [put("session", &session), put("template", &template)];
+    let journal = put("journal", &journal);
+    let [old, new] = [&old[..], &new].map(|sheets| made::book(texts, sheets));
+    let [old, new] = [put("old", &old), put("new", &new)];
+    let over = words![session, "--template", template, "--journal", journal].to_vec();
+    let against = words![new, "--against", old].to_vec();
+    (folder, [over, against])
+}
+
+/// The marks of a journal, of a template's session and of an old revision, in texts and names that would be markup if they could.
+#[test]
+fn marks_are_texts() {
+    let plain: Vec<_> = ["a", "b", "c", "d"].map(units).to_vec();
+    let hostile: Vec<_> = HOSTILE.iter().map(|text| units(text)).collect();
+    let pages = |texts: &[Vec<u16>], name: &str| {
+        let (folder, calls) = marked(texts, name);
+        calls.map(|call| {
+            report(&folder, &call, &[]);
+            let narrow = show(&folder, "report.html", 320)?;
+            let [page, frame] = ["page", "frame"].map(|name| narrow.get(name).number());
+            assert!(page <= frame, "{page} in {frame}");
+            let seen = show(&folder, "report.html", 1_300)?;
+            assert_eq!(seen.get("fetched").number(), 0.0);
+            assert_eq!(texts_of(&seen, "broken"), [""; 0]);
+            Some(seen)
+        })
+    };
+    let [Some(over), Some(against)] = pages(&plain, ".bin") else {
+        return;
+    };
+    // What must be there, by the made streams.
+    assert_eq!(
+        list(&over, "marks"),
+        [["corrected", "solid", "ccorrected, was b"]]
+    );
+    assert_eq!(
+        texts_of(&over, "lent"),
+        ["double Sheet 1 of the template: b"]
+    );
+    assert_eq!(
+        list(&over.get("lists").list()[0], ""),
+        [
+            ["Entry", "Sheet", "Cell", "Old value", "New value"],
+            ["0", "0", "A2", "b", "c"]
+        ]
+    );
+    assert_eq!(
+        list(&against.get("lists").list()[0], ""),
+        [
+            ["Sheet", "Cell", "Old value", "New value"],
+            ["0", "its name", "a", "b"],
+            ["0", "A1", "\"a\"", "\"b\""],
+            ["0", "A2", "\"b\"", "\"c\""],
+            ["0", "A3", "\"c\"", "\"d\""],
+            ["0", "A4", "\"d\"", "\"a\""],
+        ]
+    );
+    let marks = list(&against, "marks");
+    assert_eq!(marks[0], ["differs", "dashed", "bdiffers, was \"a\""]);
+    assert_eq!(marks.len(), 4);
+    let notes = texts_of(&against, "notes");
+    assert!(
+        notes.contains(&"Its name differs, was a".to_string()),
+        "{notes:?}"
+    );
+
+    let kinds = |seen: &Json| {
+        ["elements", "attributes"]
+            .map(|name| texts_of(seen, name))
+            .concat()
+    };
+    let known: BTreeSet<_> = [&over, &against].into_iter().flat_map(kinds).collect();
+    let name = "<script>alert(1)<\u{7}script>\"'><img src=x onerror=alert(1)>";
+    let [Some(over), Some(against)] = pages(&hostile, name) else {
+        panic!("there was a browser");
+    };
+    for seen in [&over, &against] {
+        let met: BTreeSet<_> = kinds(seen).into_iter().collect();
+        let new: Vec<_> = met.difference(&known).collect();
+        assert_eq!(new, [""; 0]);
+        let title = seen.get("title").text();
+        assert!(
+            title.ends_with("script>\"'><img src=x onerror=alert(1)>"),
+            "{title}"
+        );
+    }
+    let [first, second, third] = [HOSTILE[0], HOSTILE[1], HOSTILE[2]];
+    assert_eq!(
+        list(&over, "marks"),
+        [[
+            "corrected",
+            "solid",
+            &format!("{third}corrected, was {second}")
+        ]]
+    );
+    let cut: String = second.chars().take(31).collect();
+    let lent = format!("double Sheet 1 of the template: {cut}");
+    assert_eq!(texts_of(&over, "lent"), [lent]);
+    let lines = list(&against.get("lists").list()[0], "");
+    assert_eq!(lines.len(), 2 + HOSTILE.len());
+    let quoted = |text: &str| format!("\"{}\"", text.replace('"', "\\\""));
+    assert_eq!(lines[2][2..], [quoted(first), quoted(second)]);
+    let marks = list(&against, "marks");
+    assert_eq!(
+        marks[0][2],
+        format!("{second}differs, was {}", quoted(first))
+    );
+}
+
+fn texts_of(seen: &Json, name: &str) -> Vec<String> {
+    texts(seen.get(name))
+}
+
+/// The lists of texts of this name, or here.
+fn list(seen: &Json, name: &str) -> Vec<Vec<String>> {
+    let lists = if name.is_empty() {
+        seen
+    } else {
+        seen.get(name)
+    };
+    lists.list().iter().map(texts).collect()
 }
 
 /// The rows of the longest session, as they were made.

@@ -415,13 +415,17 @@ fn reported() {
     let page = run(words!["report", new, "--against", old]);
     assert_eq!((page.status, &page.err[..]), (Some(0), ""));
     let text = page.text();
+    let digest = Command::new("sha256sum").arg(&old).output();
+    let digest = String::from_utf8(digest.expect("sha256sum").stdout).expect("hex");
     for part in [
         "<h2>Differences from the old revision</h2>\n<p>13 differences.",
-        "<tr><td>0<th scope=row>A1<td class=t dir=auto>72.5</td><td class=t dir=auto>75</td>",
-        "<tr><td>0<th scope=row>C1<td class=t dir=auto><i>no cell</i></td>",
-        "<tr><td>0<th scope=row>A2<td class=t dir=auto>(blank)</td><td class=t dir=auto><i>no cell</i></td>",
-        "<tr><td>0<th scope=row>A4<td class=t dir=auto>7</td><td class=t dir=auto>=7</td>",
-        "<td class=differs>75<small class=was>differs, was 72.5</small>",
+        "<tr><td><a href=#w1-s0>0</a><th scope=row>A1<td class=t dir=auto>72.5</td><td class=t dir=auto>75</td>",
+        "<tr><td><a href=#w1-s0>0</a><th scope=row>C1<td class=t dir=auto><i>no cell</i></td>",
+        "<th scope=row>A2<td class=t dir=auto>(blank)</td><td class=t dir=auto><i>no cell</i></td>",
+        "<th scope=row>A4<td class=t dir=auto>7</td><td class=t dir=auto>=7</td>",
+        "<td class=differs>75<small class=was dir=ltr>differs, was <bdi>72.5</bdi></small>",
+        &format!("<th scope=row>Old revision<td>{}, ", old.display()),
+        &format!("<th scope=row>SHA-256 of the old revision<td class=digest>{}\n", &digest[..64]),
     ] {
         assert!(text.contains(part), "{part}\n{text}");
     }
@@ -447,6 +451,94 @@ fn reported() {
     let before = fs::read(&old).expect("a file");
     run(words!["report", new, "--against", old, "--output", old]).fails("not written over");
     assert_eq!(fs::read(&old).expect("a file"), before);
+}
+
+/// Names that differ, sheets that one of them hasn't, and marks where the new one has a chart.
+#[test]
+fn reported_sheets() {
+    let gone = |name| sheet(WORKSHEET, name, vec![number(0, 0, 1.0)]);
+    let old = [
+        gone("<one>"),
+        gone("x"),
+        gone("it's"),
+        sheet(WORKSHEET, "none", vec![]),
+    ];
+    let new = [gone("two"), sheet(CHART, "x", vec![])];
+    let (old, new) = (made::book(&[], &old), made::book(&[], &new));
+    let two = Revisions::of(&old, &new);
+    let report = |new: &str, old: &str| {
+        let ran = run(words![
+            "report",
+            two.folder.at(new),
+            "--against",
+            two.folder.at(old)
+        ]);
+        assert_eq!((ran.status, &ran.err[..]), (Some(0), ""));
+        ran.text().to_string()
+    };
+    let page = report("new", "old");
+    for part in [
+        "<p>3 differences.",
+        "<p>2 sheets are only in the old revision, by number and name:</p>\n<ul>\n<li>2: <bdi>it&#39;s</bdi>\n<li>3: <bdi>none</bdi>\n</ul>\n",
+        "<tr><td><a href=#w1-s0>0</a><th scope=row>its name<td class=t dir=auto>&lt;one&gt;</td><td class=t dir=auto>two</td>\n",
+        "<tr><td><a href=#w1-s1>1</a><th scope=row>A1<td class=t dir=auto>1</td><td class=t dir=auto><i>no cell</i></td>\n",
+        "<tr><td>2<th scope=row>A1<td class=t dir=auto>1</td><td class=t dir=auto><i>no cell</i></td>\n",
+        "<bdi>two</bdi></h2>\n<p>Its name <span class=differs>differs</span>, was <bdi>&lt;one&gt;</bdi></p>\n",
+        "<p>A chart sheet, which lists no cells.</p>\n<div class=\"scroll grid-box\"",
+        "<tr><th scope=row>1<td class=\"k differs\"><i>no cell</i><small class=was dir=ltr>differs, was <bdi>1</bdi></small>",
+    ] {
+        assert!(page.contains(part), "{part}\n{page}");
+    }
+    let page = report("old", "new");
+    let part = "<p>2 sheets are only in this one, by number and name:</p>\n<ul>\n<li>2: ";
+    assert!(page.contains(part), "{page}");
+    assert!(!page.contains("only in the old revision"));
+}
+
+/// Many differences, and long texts in them: a page of a bounded length.
+#[test]
+fn reported_many() {
+    let rows = 5_000;
+    let cells = |value: f64| (0..rows).map(move |row| number(row, 0, value));
+    let two = Revisions::of(
+        &one(&[], cells(1.0).collect()),
+        &one(&[], cells(2.0).collect()),
+    );
+    let report = |two: &Revisions, options: &[OsString]| {
+        let (new, old) = (two.folder.at("new"), two.folder.at("old"));
+        let words = [words!["report", new, "--against", old], options].concat();
+        let ran = run(&words);
+        assert_eq!(ran.status, Some(0), "{}", ran.err);
+        (ran.text().to_string(), ran.err)
+    };
+    let (page, _) = report(&two, &[]);
+    for part in [
+        "<p>5,000 differences.",
+        "<p class=note>4,000 more are not shown here.</p>",
+        // the first rows, and so many marked ones
+        "<tr><th scope=row>1100<td class=differs>2<small",
+        "<p class=note>3,900 of 5,000 rows with cells are not shown here",
+    ] {
+        assert!(page.contains(part), "{part}");
+    }
+    assert!(!page.contains("<tr><th scope=row>1101<td") && page.len() < 400_000);
+    let (page, _) = report(&two, words!["--full"]);
+    assert!(page.contains("<tr><th scope=row>5000<td class=differs>2<small"));
+    assert!(page.contains("<th scope=row>A5000<td") && !page.contains("not shown"));
+
+    // A value has 9,998 characters as compare writes it, a mark two of them: 837 marks have sixteen million. Of each value a thousand are shown, of all a million.
+    let long = |first: &str| units(&(first.to_string() + &"\u{1}".repeat(1_999)));
+    let strings = [long("a"), long("b")];
+    let texts = |index: u32| (0..rows).map(move |row| text(row, 0, index)).collect();
+    let two = Revisions::of(&one(&strings, texts(0)), &one(&strings, texts(1)));
+    let (page, _) = report(&two, &[]);
+    for part in [
+        "<p>5,000 differences.",
+        "<p class=note>4,500 more are not shown here; 4,163 of all aren't framed in the grids either.</p>",
+    ] {
+        assert!(page.contains(part), "{part}");
+    }
+    assert!(page.len() < 16_000_000, "{} bytes", page.len());
 }
 
 fn line_of(difference: &Difference) -> String {

@@ -128,10 +128,12 @@ fn a_run_that_was_killed_is_settled() {
         // Reading changes nothing, and says so.
         let listed = run(words!["journal", journal]);
         assert_eq!(listed.status, Some(0));
-        assert_eq!(
-            listed.err.contains("left one more entry"),
-            !killed.1.is_empty()
-        );
+        let reported = run(words!["report", file, "--journal", journal]);
+        assert_eq!(reported.status, Some(0));
+        for ran in [listed, reported] {
+            let told = ran.err.contains("left one more entry");
+            assert_eq!(told, !killed.1.is_empty(), "{}", ran.err);
+        }
         assert_eq!(folder.names(), before);
         if !settled {
             correct(&file, MADE[1].1, &kept(in_place(), &journal)).says(0, "granted\n");
@@ -455,7 +457,38 @@ fn over_a_template() {
         &[to(&t), vec!["--template".into(), t.clone().into()]].concat(),
     )
     .fails("not written over");
+    let report = |file: &Path, template: &Path| {
+        run(words![
+            "report",
+            file,
+            "--journal",
+            journal,
+            "--template",
+            template
+        ])
+    };
+    let page = report(&last, &t);
+    assert_eq!((page.status, &page.err[..]), (Some(0), ""));
+    for wanted in [
+        "<h2>Corrections</h2>\n<p>1 correction.",
+        "<p>The workbook holds what they wrote.</p>",
+        "<tr><td>0<td><a href=#w1-s0>0</a><th scope=row>A1<td class=t dir=auto>time</td><td class=t dir=auto>pulse</td>\n",
+        "<td class=\"t corrected\" dir=auto>pulse<small class=was dir=ltr>corrected, was <bdi>time</bdi></small></td>",
+    ] {
+        assert!(page.text().contains(wanted), "{wanted}\n{}", page.text());
+    }
+    let before = report(&first, &t);
+    assert!(before
+        .text()
+        .contains("<p>The workbook is as it was before them.</p>"));
+    // A journal of another stream, and a template that is refused.
+    report(&case("ride.in"), &t).refuses_data("refused 21 at 0");
     let bad = folder.put("bad", &template[1..]);
+    let page = report(&last, &bad);
+    assert_eq!(page.status, Some(1));
+    assert!(page
+        .text()
+        .contains("<strong>Refused 3 at 0 of the template</strong>"));
     let refused = run(words!["journal", journal, last, "--template", bad]);
     assert!(
         refused.err.contains("refused 3 at 0 of template"),
@@ -497,10 +530,13 @@ fn reported() {
         "{text}"
     );
     for row in [
-        "<tr><td>0<th scope=row>A1<td class=t dir=auto>1.5</td><td class=t dir=auto>-2.25</td>",
-        "<tr><td>0<th scope=row>A2<td class=t dir=auto>zero</td><td class=t dir=auto>one</td>",
-        "<tr><td>0<th scope=row>A3<td class=t dir=auto>#N/A</td><td class=t dir=auto>true</td>",
-        "corrected, was 1.5",
+        "<tr><td>0<td><a href=#w1-s0>0</a><th scope=row>A1<td class=t dir=auto>1.5</td><td class=t dir=auto>-2.25</td>",
+        "<tr><td>1<td><a href=#w1-s0>0</a><th scope=row>A2<td class=t dir=auto>zero</td><td class=t dir=auto>one</td>",
+        "<tr><td>2<td><a href=#w1-s0>0</a><th scope=row>A3<td class=t dir=auto>#N/A</td><td class=t dir=auto>true</td>",
+        "corrected, was <bdi>1.5</bdi>",
+        "<p>The workbook holds what they wrote.</p>",
+        &format!("<th scope=row>Journal<td>{}, 100 bytes", journal.display()),
+        &format!("<th scope=row>SHA-256 of the journal<td class=digest>{}", sha256(&journal)),
     ] {
         assert!(text.contains(row), "{row}\n{text}");
     }
@@ -513,6 +549,75 @@ fn reported() {
     let page = run(words!["report", bad, "--journal", journal]);
     assert_eq!(page.status, Some(1));
     assert!(page.text().contains("Refused 3 at 0"), "{}", page.text());
+}
+
+fn sha256(path: &Path) -> String {
+    let digest = Command::new("sha256sum").arg(path).output();
+    let digest = String::from_utf8(digest.expect("sha256sum").stdout).expect("hex");
+    digest.split(' ').next().expect("a digest").to_string()
+}
+
+/// A page says whether the workbook holds what the journal has: before the corrections, after them, and after another.
+#[test]
+fn what_a_page_says_of_the_workbook() {
+    let folder = Folder::new();
+    let (stream, entries) = made(3);
+    let journal = folder.put("journal", &entries);
+    let page = |stream: &[u8], journal: &Path| {
+        let file = folder.put("in", stream);
+        let ran = run(words!["report", file, "--journal", journal]);
+        assert_eq!((ran.status, &ran.err[..]), (Some(0), ""));
+        ran.text().to_string()
+    };
+    let before = page(&sample(), &journal);
+    assert!(
+        before.contains("<p>The workbook is as it was before them.</p>"),
+        "{before}"
+    );
+    let mut other = stream.clone();
+    second_reader::correct(&mut other, 0, 0, 0, NewValue::Number(7.0)).expect("granted");
+    let other = page(&other, &journal);
+    assert!(
+        other.contains(
+            "<p>The workbook is neither as they left it nor as it was before them: taken back from the last to the first, \
+             entry 0 is refused 19: the cell does not hold what the journal&#39;s entry says.</p>"
+        ),
+        "{other}"
+    );
+    let none = folder.put("none", &made(0).1);
+    let none = page(&sample(), &none);
+    assert!(
+        none.contains("<h2>Corrections</h2>\n<p>There is none.</p>\n<h2>"),
+        "{none}"
+    );
+}
+
+/// A long journal makes no long page: so many lines and frames, and the count of the rest.
+#[test]
+fn many_corrections() {
+    let folder = Folder::new();
+    let (mut stream, count) = (sample(), 5_000);
+    let mut journal = vec![0; 16 + 28 * count];
+    second_reader::start_journal(&stream, &mut journal).expect("it passes");
+    for number in 0..count {
+        let value = NewValue::Number(number as f64);
+        second_reader::correct_journalled(&mut stream, &mut journal, 0, 0, 0, value)
+            .expect("granted");
+    }
+    let (file, journal) = (folder.put("in", &stream), folder.put("journal", &journal));
+    let part = run(words!["report", file, "--journal", journal]);
+    let text = part.text();
+    for wanted in [
+        "<p>5,000 corrections. ",
+        "<tr><td>999<td><a href=#w1-s0>0</a><th scope=row>A1<td class=t dir=auto>998</td><td class=t dir=auto>999</td>",
+        "<p class=note>4,000 more are not shown here.</p>",
+        "<td class=corrected>4999<small class=was dir=ltr>corrected 5000 times, was <bdi>1.5</bdi></small>",
+    ] {
+        assert!(text.contains(wanted), "no {wanted}");
+    }
+    assert!(!text.contains("<tr><td>1000<td>") && text.len() < 200_000);
+    let full = run(words!["report", file, "--journal", journal, "--full"]);
+    assert!(full.text().contains("<tr><td>4999<td>") && !full.text().contains("not shown"));
 }
 
 /// One cell, corrected again and again.

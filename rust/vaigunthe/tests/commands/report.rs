@@ -8,7 +8,6 @@ use std::ffi::OsString;
 use std::fs;
 use std::os::unix::ffi::OsStringExt;
 use std::os::unix::fs::symlink;
-use std::path::Path;
 use std::process::Command;
 
 /// The page on a stream from standard input.
@@ -334,7 +333,7 @@ fn other_files() {
 }
 
 /// Texts that would be markup if they could.
-const HOSTILE: [&str; 8] = [
+pub const HOSTILE: [&str; 8] = [
     "<script>document.title='owned'</script>",
     "\"><img src=x onerror=alert(1)>",
     "'><svg/onload=alert(1)>",
@@ -717,11 +716,4 @@ fn progress() {
             "{term}: {said}"
         );
     }
-}
-
-/// Not offered before they work.
-#[test]
-fn no_promises() {
-    let file: &Path = &case("cells.in");
-    run(words!["report", file, "--template", "x"]).fails("unknown option");
 }

@@ -8,6 +8,7 @@ use second_reader::{PairRefusal, Whose};
 use std::ffi::OsString;
 use std::fs;
 use std::path::Path;
+use std::process::Command;
 
 /// A folder with the stored session, `day.bin`, its template, and a session with strings of its own, `own.bin`.
 fn folder() -> Folder {
@@ -288,6 +289,252 @@ fn dates_by_the_formats_of_each_stream() {
         .collect();
     names.sort();
     assert_eq!(names, ["0-Day.csv", "1-Plan.csv"]);
+}
+
+/// A page on the stored session: each sheet says whose it is, and texts come from the right table.
+#[test]
+fn reported() {
+    let folder = folder();
+    let page = |call: &str| {
+        let ran = run_in(&folder, call);
+        assert_eq!((ran.status, &ran.err[..]), (Some(0), ""));
+        ran.text().to_string()
+    };
+    let day = page("report day.bin --template template.bin");
+    let digest = Command::new("sha256sum")
+        .arg(folder.at("template.bin"))
+        .output();
+    let digest = String::from_utf8(digest.expect("sha256sum").stdout).expect("hex");
+    let template = folder.at("template.bin");
+    let bytes = fs::metadata(&template).expect("the template").len();
+    for wanted in [
+        "<title>day.bin</title>",
+        &format!("<th scope=row>Template<td>{}, {bytes} bytes\n", template.display()),
+        &format!("<th scope=row>SHA-256 of the template<td class=digest>{}\n", &digest[..64]),
+        "<th scope=row>Sheets<td>2 (1 of the session, 1 of the template)\n",
+        "<th scope=row>Shared strings<td>3 (of the template)\n",
+        "<th scope=row>Cells<td>7\n",
+        "<td>no; without its template it is refused 9 at 61: a text cell&#39;s index",
+        "<p>Sheets that the session hasn't are the template's; they have a double line at their side.</p>\n",
+        "<tr><td>0<td class=t>session<th scope=row class=t><a href=#w1-s0><bdi>Day 1</bdi></a><td class=t>worksheet<td>2<td>4\n",
+        "<tr><td>1<td class=t>template<th scope=row class=t><a href=#w1-s1><bdi>Key</bdi></a><td class=t>worksheet<td>2<td>3\n",
+        "<section aria-labelledby=w1-s0>\n<h2 id=w1-s0>Sheet 0 of the session: <bdi>Day 1</bdi></h2>",
+        "<tr><th scope=row>1<td class=t dir=auto>time</td><td class=t dir=auto>pulse</td>\n<tr><th scope=row>2<td>480<td>70\n",
+        "<section class=lent aria-labelledby=w1-s1>\n<h2 id=w1-s1>Sheet 1 of the template: <bdi>Key</bdi></h2>",
+        "<tr><th scope=row>1<td class=t dir=auto>resting</td><td>60\n",
+        "<i class=f>\u{192} text</i>beats a minute</td>",
+    ] {
+        assert!(day.contains(wanted), "no {wanted} in {day}");
+    }
+    // Strings of its own, and a sheet of the template behind it.
+    let own = page("report own.bin --template template.bin");
+    for wanted in [
+        "<th scope=row>Shared strings<td>3 (of the session)\n",
+        "Sheet 0 of the session: <bdi>Sheet1</bdi>",
+        "Sheet 1 of the template: <bdi>Key</bdi>",
+        "<tr><th scope=row>1<td class=t dir=auto>resting</td><td>60\n",
+        "<td>no; refused 20 at 94: ",
+    ] {
+        assert!(own.contains(wanted), "no {wanted} in {own}");
+    }
+    // Alone nothing is said of streams.
+    let alone = page("report own.bin");
+    for absent in ["of the session", "<th scope=col>Stream", "class=lent"] {
+        assert!(!alone.contains(absent), "{absent} in {alone}");
+    }
+    // Several sessions over one template.
+    let both = page("report day.bin own.bin --template template.bin");
+    assert_eq!(
+        both.matches("Sheet 1 of the template: <bdi>Key</bdi>")
+            .count(),
+        2
+    );
+    assert!(
+        both.contains("day.bin</a><td class=t>passed<td>125<td>2<td>3<td>7\n"),
+        "{both}"
+    );
+}
+
+/// A sensor's session stays one, with its picture, whatever the template has.
+#[test]
+fn a_reported_ride() {
+    let folder = folder();
+    folder.put("ride.bin", &fs::read(case("ride.in")).expect("an input"));
+    let ran = run_in(&folder, "report ride.bin --template template.bin");
+    let page = ran.text();
+    assert!(page.contains("<td>yes, 9 rows, 3 columns") && page.contains("<svg"));
+    assert!(page.contains("Sheet 1 of the template: <bdi>Key</bdi>"));
+}
+
+/// Whose a refusal is stands on the page, with the bytes of that stream; on standard error the template's is said once.
+#[test]
+fn reported_refusals() {
+    let folder = folder();
+    folder.put("empty.bin", b"");
+    folder.put(
+        "bad.bin",
+        &fs::read(case("refused-5-encrypted.in")).expect("an input"),
+    );
+    let ran = run_in(&folder, "report bad.bin day.bin --template template.bin");
+    assert_eq!(ran.status, Some(1));
+    assert!(ran
+        .err
+        .ends_with("bad.bin: refused 5 at 20 of session: the workbook is encrypted\n"));
+    assert_eq!(ran.err.lines().count(), 1);
+    for wanted in [
+        "<td class=t>refused 5 at 20 of session: the workbook is encrypted<td>30<td>–",
+        "<strong>Refused 5 at 20 of the session</strong>: the workbook is encrypted.",
+        "The marked byte, 2F, is byte 0x14 of the session. Read as the header",
+        "<th scope=row>Template<td>",
+        "Sheet 0 of the session: <bdi>Day 1</bdi>",
+    ] {
+        assert!(ran.text().contains(wanted), "no {wanted} in {}", ran.text());
+    }
+    // The template's come first, with its own bytes.
+    let ran = run_in(&folder, "report bad.bin own.bin --template day.bin");
+    assert_eq!(ran.status, Some(1));
+    let said = "day.bin: refused 9 at 61 of template: a text cell's index";
+    assert!(
+        ran.err.lines().count() == 1 && ran.err.contains(said),
+        "{}",
+        ran.err
+    );
+    let page = ran.text();
+    assert_eq!(
+        page.matches("<strong>Refused 9 at 61 of the template</strong>")
+            .count(),
+        2
+    );
+    assert!(
+        page.contains("The marked byte, FD, is byte 0x3D of the template. "),
+        "{page}"
+    );
+    assert_eq!(page.matches("<mark>FD</mark>").count(), 2);
+    let ran = run_in(&folder, "report day.bin --template empty.bin");
+    assert!(ran.text().contains("The template has no byte.") && ran.status == Some(1));
+    assert!(
+        ran.err.contains("empty.bin: refused 3 at 0 of template"),
+        "{}",
+        ran.err
+    );
+    // Other files are told what they are.
+    let compound = [
+        &[0xD0, 0xCF, 0x11, 0xE0, 0xA1, 0xB1, 0x1A, 0xE1][..],
+        &[0; 600],
+    ]
+    .concat();
+    folder.put("whole.bin", &compound);
+    let ran = run_in(&folder, "report day.bin own.bin --template whole.bin");
+    assert_eq!(
+        ran.err.matches("this is a whole .xls file").count(),
+        1,
+        "{}",
+        ran.err
+    );
+    assert_eq!(ran.text().matches("this is a whole .xls file").count(), 2);
+}
+
+#[test]
+fn reports_that_are_wrong_usage() {
+    let folder = folder();
+    let both = "report day.bin --template template.bin --against own.bin";
+    run_in(&folder, both).fails("--against doesn't go with --template");
+    for call in [
+        "report - --template -",
+        "report day.bin --template - --journal -",
+        "report day.bin --against - --journal -",
+    ] {
+        run_in(&folder, call).fails("standard input can be read only once");
+    }
+    run_in(&folder, "report day.bin --template none.bin").fails("none.bin");
+    let before = fs::read(folder.at("template.bin")).expect("the template");
+    let over = "report day.bin --template template.bin --output template.bin";
+    run_in(&folder, over).fails("not written over");
+    assert_eq!(fs::read(folder.at("template.bin")).expect("it"), before);
+    let call = words!["report", folder.at("day.bin"), "--template", "-"];
+    let ran = run_with(call, &before);
+    assert!(
+        ran.status == Some(0)
+            && ran
+                .text()
+                .contains("<th scope=row>Template<td>standard input, ")
+    );
+}
+
+/// Dates go by the formats of the stream that has the cell, and each stream is told of by itself.
+#[test]
+fn reported_dates() {
+    let folder = Folder::new();
+    let format = || [number_format(164, "yyyy-mm-dd"), cell_format(164)];
+    let session = book_of(&format(), &[dated("Day", WORKSHEET)]);
+    let [number_format, cell_format] = format();
+    let globals = [datemode(1), number_format, cell_format];
+    let sheets = [dated("Hidden", WORKSHEET), dated("Plan", WORKSHEET)];
+    folder.put("session.bin", &session);
+    folder.put("template.bin", &book_of(&globals, &sheets));
+    let ran = run_in(&folder, "report session.bin --template template.bin");
+    let page = ran.text();
+    for wanted in [
+        "<p class=note>Dates of the session: there is no DATEMODE record: days are counted from 1900.</p>",
+        "<td class=d title=\"serial 38046\">2004-02-29\n",
+        "<td class=d title=\"serial 38046\">2008-03-01\n",
+    ] {
+        assert!(page.contains(wanted), "no {wanted} in {page}");
+    }
+    assert!(!page.contains("Dates of the template") && !page.contains("Hidden"));
+}
+
+/// Made pairs: as many sheets and cells on the page as the second reader has, or its refusal.
+#[test]
+fn reported_made_pairs() {
+    let folder = Folder::new();
+    let mut passed = 0;
+    for seed in 0..60 {
+        let pair = streams::pair(seed);
+        folder.put("template.bin", &pair.template);
+        folder.put("session.bin", &pair.session);
+        let ran = run_in(&folder, "report session.bin --full --template template.bin");
+        let page = ran.text();
+        match second_reader::pair_check(&pair.template, &pair.session) {
+            Err(PairRefusal::Stream(whose, refusal)) => {
+                let whose = match whose {
+                    Whose::Session => "session",
+                    Whose::Template => "template",
+                };
+                let told = page.split("<strong>").nth(1).expect("a refusal");
+                let told = told
+                    .split("</strong>")
+                    .next()
+                    .expect("its end")
+                    .replace(',', "");
+                let (number, offset) = (refusal.number, refusal.offset);
+                assert_eq!(told, format!("Refused {number} at {offset} of the {whose}"));
+                assert_eq!(ran.status, Some(1));
+            }
+            Err(refused) => panic!("seed {seed}: {refused:?}"),
+            Ok(sheets) => {
+                passed += 1;
+                assert_eq!(ran.status, Some(0));
+                let mut cells = 0;
+                for number in 0..sheets as u32 {
+                    let whose =
+                        second_reader::pair_cells(&pair.template, &pair.session, number, |_| {
+                            cells += 1
+                        });
+                    let whose = match whose.expect("a sheet") {
+                        Whose::Session => "session",
+                        Whose::Template => "template",
+                    };
+                    let heading = format!(">Sheet {number} of the {whose}: <bdi>");
+                    assert!(page.contains(&heading), "seed {seed}: {heading}");
+                }
+                let told = page.split("<th scope=row>Cells<td>").nth(1).expect("cells");
+                let told = told.lines().next().expect("a number").replace(',', "");
+                assert_eq!(told, cells.to_string(), "seed {seed}");
+            }
+        }
+    }
+    assert!(passed > 15, "{passed}");
 }
 
 /// The lines of made pairs, with what the second reader says of each.
