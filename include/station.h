@@ -41,7 +41,7 @@ uint32_t station_version(void);
 
 /* The refusals. Where nothing else is said the offset is that of the header of the record being read. */
 enum station_refusal {
-    STATION_TOO_LONG = 1,         /* the stream is longer than 16,777,216 bytes; offset 0 */
+    STATION_TOO_LONG = 1,         /* the stream, or the new one without its unused strings, is longer than 16,777,216 bytes; offset 0 */
     STATION_CUT_RECORD = 2,       /* a record's header or body passes the end of the stream, or its body is over 8,224 bytes */
     STATION_NO_GLOBALS = 3,       /* the stream is empty, or its first record is not the BOF of the globals; offset 0 */
     STATION_BAD_SUBSTREAMS = 4,   /* the rules of how substreams start, nest, follow each other and end are broken; where the stream ends, its length */
@@ -52,7 +52,7 @@ enum station_refusal {
     STATION_BAD_INDEX = 9,        /* a text cell's index is not below the number of shared strings */
     STATION_BAD_SHEETS = 10,      /* the sheet list and the substreams disagree; at the BOUNDSHEET, or the BOF that none names */
     STATION_ABSENT = 11,          /* the sheet, string or cell asked for is absent, or has no text result; offset 0 */
-    STATION_NO_ROOM = 12,         /* the buffer has fewer units than the string, the table under two numbers for each string, the journal no room; offset 0 */
+    STATION_NO_ROOM = 12,         /* the buffer has fewer units than the string or bytes than the new stream, the table under two numbers for each string, the journal no room; offset 0 */
     STATION_BAD_TOKEN = 13,       /* the formula has an unknown, cut or misplaced token, or a bad length; the offset is the token's */
     STATION_BAD_STACK = 14,       /* the formula's stack runs short, or does not end with one operand; at the token, or the formula's end */
     STATION_BAD_FUNCTION = 15,    /* the formula has no such function, or uses it wrongly; the offset is the token's */
@@ -231,6 +231,17 @@ struct station_pair_answer station_pair_journal_correct(const uint8_t *template_
 struct station_pair_replayed { uint8_t whose; uint8_t number; size_t offset; bool stopped; uint32_t entries; };
 struct station_pair_replayed station_pair_replay(const uint8_t *template_stream, size_t template_length, uint8_t *session, size_t session_length,
                                                  const uint8_t *journal, size_t journal_length, bool backwards);
+
+/* compact: the stream without its unused strings, at the front of a buffer of room bytes; later bytes stay. 1 where the new stream would be too long,
+ * then 12 where the buffer has fewer bytes. written is its length; it may be more than the old one's */
+struct station_compacted { uint8_t number; size_t offset; size_t written; };
+struct station_compacted station_compact(const uint8_t *stream, size_t length, uint8_t *new_stream, size_t room);
+
+/* the same for a session over a template: the session without the strings of its own table that it doesn't use. Without a table of its own it gets
+ * none, and its indices stay. whose is 2 where it is written; the 1 of the new stream and 12 are the question's, with 0. */
+struct station_pair_compacted { uint8_t whose; uint8_t number; size_t offset; size_t written; };
+struct station_pair_compacted station_pair_compact(const uint8_t *template_stream, size_t template_length, const uint8_t *session,
+                                                   size_t session_length, uint8_t *new_stream, size_t room);
 
 /* profile: whether a stream is of the kind that the sensors write, with how many rows and columns (2, or 3 with the host's seconds); else
  * 20 after any refusal of the check, at the record of the first cell at fault */

@@ -1,6 +1,6 @@
 -- What holds of every comparison of two streams. Assumes nothing.
 use Prim.Native.Nat.{ℕ, zero, suc, _+_, _-_, _*_, _/_, _≤_, _<_}
-use mathlib.Core.Path.{_≡_, refl, sym, ap, _∙_, subst}
+use mathlib.Core.Path.{_≡_, refl, sym, ap, ap₂, _∙_, subst}
 use mathlib.Core.Bool.{Bool, true, false}
 use mathlib.Core.List.{List, [], _∷_, _++_}
 use native.Mathlib.Omega.{arith}
@@ -22,12 +22,16 @@ use Rattle.compared.specs.Claims.{WithItself, Listed, ListsDifferences, 
 abbrev judged : List ℕ → List ℕ → ℕ → Bool → Bool → Comparison
 judged s t from x y = pick x (refuses side.First 16 0) (pick y (refuses side.Second 16 0) (lists (differences (readingOf s 0) (readingOf t 0) from)))
 
-pub with-itself : WithItself
+-- two streams that pass, neither with an address twice
+pub both-pass : (s t : List ℕ) (g g′ : Globals) (from : ℕ) → checkedOf s 0 ≡ Right g → checkedOf t 0 ≡ Right g′ → twiceIn (readingOf s 0 .sheets) ≡ false → twiceIn (readingOf t 0 .sheets) ≡ false
+    → comparisonOf s t from ≡ lists (differences (readingOf s 0) (readingOf t 0) from)
 unfolding comparisonOf
-with-itself s g from h once =
-    ap (λ (r : Checked). onChecked (refuses side.First) (λ _. onChecked (refuses side.Second) (λ _. judged s s from (twiceIn (readingOf s 0 .sheets)) (twiceIn (readingOf s 0 .sheets))) r) r) h
-    ∙ sym (pick-false _ _ _ (twiceIn (readingOf s 0 .sheets)) once (pick-false _ _ _ (twiceIn (readingOf s 0 .sheets)) once refl))
-    ∙ ap lists (same-nothing (readingOf s 0) from)
+both-pass s t g g′ from h i once again =
+    ap₂ (λ (a b : Checked). onChecked (refuses side.First) (λ _. onChecked (refuses side.Second) (λ _. judged s t from (twiceIn (readingOf s 0 .sheets)) (twiceIn (readingOf t 0 .sheets))) b) a) h i
+    ∙ sym (pick-false _ _ _ (twiceIn (readingOf s 0 .sheets)) once (pick-false _ _ _ (twiceIn (readingOf t 0 .sheets)) again refl))
+
+pub with-itself : WithItself
+with-itself s g from h once = both-pass s s g g from h h once once ∙ ap lists (same-nothing (readingOf s 0) from)
 
 module _ (s t : List ℕ) (from : ℕ) (l : List ℕ) where
   by-twice : (x y : Bool) → twiceIn (readingOf s 0 .sheets) ≡ x → twiceIn (readingOf t 0 .sheets) ≡ y → judged s t from x y ≡ lists l → Listed s t from l

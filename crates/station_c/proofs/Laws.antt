@@ -40,12 +40,19 @@ use Rattle.pairanswers.specs.declared.Answer as pairs
 use Rattle.pairanswers.specs.Answers.{answerSeen}
 use Rattle.batch.specs.declared.Filled as batch
 use Rattle.batch.specs.Batch.{Batch, filledSeen as batchSeen}
-use Rattle.station_c.specs.Answers.{checkSeen, judgeSeen, correctSeen, fetchSeen, textSeen, sheetSeen, cellsSeen, filledSeen, tableSeen, comparedSeen}
+use Rattle.pair.specs.declared.Of.{Of}
+use Rattle.pairanswers.specs.Answers.{ofNumber}
+use Rattle.paircompact.specs.declared.PairCompacted.{PairCompacted}
+use Rattle.paircompact.specs.declared.PairCompacted.the-variants as pairCompacted
+use Rattle.station_c.specs.declared.NewSession.{NewSession}
+use Rattle.station_c.specs.Answers.{checkSeen, judgeSeen, correctSeen, fetchSeen, textSeen, sheetSeen, cellsSeen, filledSeen, tableSeen, comparedSeen, compactSeen, pairCompactSeen}
 use Rattle.correction.specs.Correction as corrections
 use Rattle.journal.specs.Journal.{journalledOf, journalAfter}
 use Rattle.pairjournal.specs.Journals.{pairJournalledOf, pairJournalAfter}
 use Rattle.journalanswers.specs.declared.Answer as journals
 use Rattle.journalanswers.specs.Answers.{answerSeen as journalSeen}
+use Rattle.compacting.specs.declared.Compacted.{Compacted}
+use Rattle.station_c.specs.declared.NewStream.{NewStream}
 
 -- r is what the call gave, a what its promise says, x how the code saw it
 seen : {A B : Type 0} (f : A → B) {a r x : A} {y : B} → r ≡ a → r ≡ x → y ≡ f x → y ≡ f a
@@ -76,6 +83,21 @@ units-told i h = h ∙ ap fetchSeen (sym i)
 
 pub fetch-seen : {a r : Fetched} {y : Units} → r ≡ a → y ≡ fetchSeen r → y ≡ fetchSeen a
 fetch-seen i h = h ∙ ap fetchSeen i
+
+pub compact-told : {a x : Compacted} {y : NewStream} → a ≡ x → y ≡ compactSeen x → y ≡ compactSeen a
+compact-told i h = h ∙ ap compactSeen (sym i)
+
+pub compact-seen : {a r : Compacted} {y : NewStream} → r ≡ a → y ≡ compactSeen r → y ≡ compactSeen a
+compact-seen i h = h ∙ ap compactSeen i
+
+pub session-written : {a : PairCompacted} (n : ℕ) → a ≡ pairCompacted.Written n → record { whose = 2; number = 0; offset = 0; written = n } ≡ pairCompactSeen a
+session-written n i = ap pairCompactSeen (sym i)
+
+pub session-refused : {a : PairCompacted} (w : Of) (n o m : ℕ) → a ≡ pairCompacted.Refused w n o → m ≡ ofNumber w → record { whose = m; number = n; offset = o; written = 0 } ≡ pairCompactSeen a
+session-refused w n o m i e = (λ j. record { whose = e j; number = n; offset = o; written = 0 }) ∙ ap pairCompactSeen (sym i)
+
+pub session-seen : {a r : PairCompacted} {y : NewSession} → r ≡ a → y ≡ pairCompactSeen r → y ≡ pairCompactSeen a
+session-seen i h = h ∙ ap pairCompactSeen i
 
 pub text-seen : (c : Cursor) {a r x : NextString} {y : SharedString} → r ≡ a → r ≡ x → y ≡ textSeen c x → y ≡ textSeen c a
 text-seen c = seen (textSeen c)

@@ -34,6 +34,13 @@ use Rattle.compare.specs.declared.Compared.the-variants as compared
 use Rattle.station_c.specs.declared.Check.{Check}
 use Rattle.station_c.specs.declared.Answer.{Answer}
 use Rattle.station_c.specs.declared.Units.{Units}
+use Rattle.compacting.specs.declared.Compacted.{Compacted}
+use Rattle.compacting.specs.declared.Compacted.the-variants as compacted
+use Rattle.pairanswers.specs.Answers.{ofNumber}
+use Rattle.paircompact.specs.declared.PairCompacted.{PairCompacted}
+use Rattle.paircompact.specs.declared.PairCompacted.the-variants as pairCompacted
+use Rattle.station_c.specs.declared.NewStream.{NewStream}
+use Rattle.station_c.specs.declared.NewSession.{NewSession}
 use Rattle.station_c.specs.declared.SharedString.{SharedString}
 use Rattle.station_c.specs.declared.Sheet.{Sheet}
 use Rattle.station_c.specs.declared.Cells.{Cells}
@@ -73,6 +80,14 @@ fetchSeen (fetched.Refused n o) = record { number = n; offset = o; units = 0 }
 abbrev pub tableSeen : places.Filled → FilledTable
 tableSeen (filled.Strings n) = record { number = 0; offset = 0; strings = n }
 tableSeen (filled.Refused n o) = record { number = n; offset = o; strings = 0 }
+
+abbrev pub compactSeen : Compacted → NewStream
+compactSeen (compacted.Written n) = record { number = 0; offset = 0; written = n }
+compactSeen (compacted.Refused n o) = record { number = n; offset = o; written = 0 }
+
+abbrev pub pairCompactSeen : PairCompacted → NewSession
+pairCompactSeen (pairCompacted.Written n) = record { whose = 2; number = 0; offset = 0; written = n }
+pairCompactSeen (pairCompacted.Refused w n o) = record { whose = ofNumber w; number = n; offset = o; written = 0 }
 
 -- the next string from a place on: the place stays where there is none, or no room for it
 abbrev pub textSeen : Cursor → NextString → SharedString

@@ -1,4 +1,5 @@
 // The five questions as C functions. Each is defined for every argument; a refusal's number is 0 where there is none, and what isn't answered is 0.
+mod compacted;
 mod comparisons;
 mod journals;
 mod pairs;
@@ -61,6 +62,23 @@ pub struct Comparison {
     pub offset: usize,
     pub words: usize,
     pub more: bool,
+}
+
+// How many bytes the new stream has, which is at the front of the buffer.
+#[repr(C)]
+pub struct NewStream {
+    pub number: u8,
+    pub offset: usize,
+    pub written: usize,
+}
+
+// The same of a session over its template, with whose refusal it is; 2 where it is written.
+#[repr(C)]
+pub struct NewSession {
+    pub whose: u8,
+    pub number: u8,
+    pub offset: usize,
+    pub written: usize,
 }
 
 // The next string: its units are at the front of the buffer; 12 where that has fewer units than the string. The place after it.

@@ -1,6 +1,6 @@
 //! The questions over a template and a session.
 
-use crate::questions::{numbers_of, units, LARGEST_TABLE};
+use crate::questions::{new_stream, numbers_of, units, LARGEST_TABLE};
 use crate::words::{bits, byte, bytes, code, number};
 use station::pair::{self, Refused, Whose};
 use station::{NewValue, LONGEST_STRING};
@@ -172,4 +172,13 @@ pub fn fill(words: &[&[u8]]) -> Option<String> {
     Some(told(filled.map(|_| {
         format!("filled {} / {}", numbers_of(&first), numbers_of(&second))
     })))
+}
+
+/// `compact-session T S ROOM`.
+pub fn compact(words: &[&[u8]]) -> Option<String> {
+    let [template, session, room] = words else {
+        return None;
+    };
+    let (template, session) = (bytes(template)?, bytes(session)?);
+    new_stream(room, |buffer| pair::compact(&template, &session, buffer)).map(told)
 }

@@ -3,7 +3,7 @@
 use crate::journals;
 use crate::pairs;
 use crate::words::{bytes, number, numbers};
-use station::{Cell, Difference, Pair, Refusal, LONGEST_STRING};
+use station::{Cell, Compacted, Difference, Pair, Refusal, LONGEST_STREAM, LONGEST_STRING};
 use std::fmt::Write;
 
 /// A question: its name, the words after it, what it asks, and the answer to such words; none where they are not what it takes.
@@ -15,7 +15,7 @@ struct Question {
 }
 
 /// All of them.
-const QUESTIONS: [Question; 12] = [
+const QUESTIONS: [Question; 14] = [
     Question {
         name: "check",
         words: "S",
@@ -78,6 +78,18 @@ const QUESTIONS: [Question; 12] = [
         words: "A B",
         asks: "where two streams differ, by sheet, row and column",
         answer: compare,
+    },
+    Question {
+        name: "compact",
+        words: "S ROOM",
+        asks: "the stream without its unused strings, for a buffer of ROOM bytes: after the answer and a tab the new stream",
+        answer: compact,
+    },
+    Question {
+        name: "compact-session",
+        words: "T S ROOM",
+        asks: "the same for a session over a template (T)",
+        answer: pairs::compact,
     },
     Question {
         name: "profile",
@@ -258,6 +270,32 @@ fn apart(differences: impl Iterator<Item = Difference>) -> String {
         line.push_str("same");
     }
     line
+}
+
+fn compact(words: &[&[u8]]) -> Option<String> {
+    let [stream, room] = words else { return None };
+    let stream = bytes(stream)?;
+    let written = new_stream(room, |buffer| station::compact(&stream, buffer))?;
+    Some(written.unwrap_or_else(|refusal| refusal.line()))
+}
+
+/// How many bytes a new stream has in a buffer of so many, how many are freed, and after a tab the new stream; or why there is none.
+pub fn new_stream<R>(
+    room: &[u8],
+    write: impl FnOnce(&mut [u8]) -> Result<Compacted, R>,
+) -> Option<Result<String, R>> {
+    // A larger buffer answers the same.
+    let room = (number(room)? as usize).min(LONGEST_STREAM);
+    let mut buffer = vec![0; room];
+    Some(write(&mut buffer).map(|Compacted { written, freed }| {
+        let mut line = format!("written {written} freed {freed}\t");
+        line.reserve(2 * written);
+        for byte in &buffer[..written] {
+            // Writing to a string never fails.
+            let _ = write!(line, "{byte:02X}");
+        }
+        line
+    }))
 }
 
 fn profile(words: &[&[u8]]) -> Option<String> {

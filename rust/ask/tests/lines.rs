@@ -351,6 +351,79 @@ fn made_revisions() {
     }
 }
 
+/// The stored stream and what it is without its unused strings, in buffers of several lengths.
+#[test]
+fn unused_strings_of_a_case() {
+    let cases = Path::new(env!("CARGO_MANIFEST_DIR")).join("../../cases");
+    let of = |name: &str| hex(&fs::read(cases.join(name)).expect("a stored case"));
+    let (old, new) = (of("unused-strings.in"), of("used-strings.in"));
+    let (template, day) = (of("template.in"), of("day.in"));
+    let written = format!("written 281 freed 151\t{}", new.to_uppercase());
+    let again = format!("written 281 freed 0\t{}", new.to_uppercase());
+    let asked = [
+        (format!("compact\t{old}\t281"), written.clone()),
+        (format!("compact\t{old}\t4294967295"), written.clone()),
+        (format!("compact\t{old}\t280"), "refused 12 at 0".into()),
+        (format!("compact\t{old}\t0"), "refused 12 at 0".into()),
+        (format!("compact\t{new}\t281"), again),
+        ("compact\t-\t0".into(), "refused 3 at 0".into()),
+        (format!("compact\t{day}\t999"), "refused 9 at 61".into()),
+        (format!("compact-session\t{template}\t{old}\t281"), written),
+        (
+            format!("compact-session\t{template}\t{old}\t280"),
+            "refused 12 at 0".into(),
+        ),
+        (
+            format!("compact-session\t{template}\t{day}\t999"),
+            format!("written {} freed 0\t{}", day.len() / 2, day.to_uppercase()),
+        ),
+        (
+            format!("compact-session\t-\t{old}\t281"),
+            "refused 3 at 0 of template".into(),
+        ),
+        (
+            format!("compact-session\t{template}\t-\t281"),
+            "refused 3 at 0 of session".into(),
+        ),
+    ];
+    let questions = asked.clone().map(|(question, _)| question);
+    assert_eq!(answers(&questions), asked.map(|(_, answer)| answer));
+}
+
+/// A new stream as ask tells it.
+fn new_stream(done: second_reader::Compacted, buffer: &[u8]) -> String {
+    let second_reader::Compacted { written, freed } = done;
+    let new = hex(&buffer[..written]).to_uppercase();
+    format!("written {written} freed {freed}\t{new}")
+}
+
+#[test]
+fn made_streams_without_their_unused_strings() {
+    let mut questions = Vec::new();
+    let mut wanted = Vec::new();
+    for seed in 0..300 {
+        let stream = streams::with_unused(seed);
+        let [room, ..] = streams::rooms(seed, stream.len());
+        let mut buffer = vec![0; room];
+        questions.push(format!("compact\t{}\t{room}", hex(&stream)));
+        let answer = second_reader::compact(&stream, &mut buffer);
+        wanted.push(answer.map_or_else(refused, |done| new_stream(done, &buffer)));
+
+        let streams::Pair { template, session } = streams::pair_with_unused(seed);
+        let [room, ..] = streams::rooms(seed, session.len());
+        let mut buffer = vec![0; room];
+        let (first, second) = (hex(&template), hex(&session));
+        questions.push(format!("compact-session\t{first}\t{second}\t{room}"));
+        let answer = second_reader::compact_session(&template, &session, &mut buffer);
+        wanted.push(answer.map_or_else(pair_refused, |done| new_stream(done, &buffer)));
+    }
+    assert_eq!(answers(&questions), wanted);
+    for part in ["written ", "refused ", "of template", "of session"] {
+        let met = wanted.iter().filter(|line| line.contains(part)).count();
+        assert!(met >= 10, "'{part}' was met {met} times");
+    }
+}
+
 /// Each gets its answer, and the lines after it theirs.
 #[test]
 fn lines_that_are_no_question() {
@@ -398,6 +471,17 @@ fn lines_that_are_no_question() {
         "compare\t-\t",
         "compare\t-\t0",
         "compare\t-\t-\t-",
+        "compact",
+        "compact\t-",
+        "compact\t-\t",
+        "compact\t-\t-",
+        "compact\t0\t0",
+        "compact\t-\t4294967296",
+        "compact\t-\t0\t0",
+        "compact-session\t-\t0",
+        "compact-session\t-\t-\t-",
+        "compact-session\t-\t0\t0",
+        "compact-session\t-\t-\t0\t0",
         "profile",
         "profile\t",
         "profile\t-\t0",
@@ -1093,6 +1177,8 @@ fn help_and_arguments() {
         "pair-fill T S NUMBERS NUMBERS ",
         "journal T S J QUESTION ",
         "compare A B ",
+        "compact S ROOM ",
+        "compact-session T S ROOM ",
         "profile S ",
         "cadence S ROW ",
     ] {

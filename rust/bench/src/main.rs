@@ -2,15 +2,17 @@
 //! against plain Rust (`listers` says against what), in turn, the best of many; and, where the machine counts instructions, how many.
 //!
 //! - `--all`: of each kind of stream, hostile ones too;
-//! - `--assert`: instructions alone, of a smaller stream of each kind; fails where a ratio is above its target;
+//! - `--assert`: instructions alone, of a smaller stream of each kind, and without unused strings; fails where a ratio is above its target;
 //! - `--peers`: beside other readers that the machine has;
 //! - `--places`: a million look-ups of strings through a table of places;
 //! - `--pair`: the questions over a template and a session;
 //! - `--journal`: replay of a journal of 500,000 entries, right and forged;
-//! - `--compare`: two revisions, and pairs that are dear to compare, against a plain compare.
+//! - `--compare`: two revisions, and pairs that are dear to compare, against a plain compare;
+//! - `--compact`: a stream without its unused strings, half of 400,000, and streams that are dear to write so, against the second reader.
 
 #![forbid(unsafe_code)]
 
+mod compacting;
 mod comparing;
 mod compound;
 mod instructions;
@@ -131,15 +133,16 @@ fn main() -> ExitCode {
             println!("{HEADING}");
             every(&Big::ALL, measure)
         }
-        ["--assert"] => every(&Big::ALL, keeps),
+        ["--assert"] => every(&Big::ALL, keeps) & compacting::keeps(),
         ["--peers"] => peers::run(),
         ["--places"] => places::run(),
         ["--pair"] => pair::run(),
         ["--journal"] => journal::run(),
         ["--compare"] => comparing::run(),
+        ["--compact"] => compacting::run(),
         [WORK, name, file] => return work(name, file),
         _ => {
-            eprintln!("usage: bench [--all | --assert | --peers | --places | --pair | --journal | --compare]");
+            eprintln!("usage: bench [--all | --assert | --peers | --places | --pair | --journal | --compare | --compact]");
             return ExitCode::from(2);
         }
     };

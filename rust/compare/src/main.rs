@@ -1,9 +1,11 @@
 //! `compare [COUNT [FIRST]]`: asks the proved library and the second reader the same questions about made streams, formulas and corrections, one of
 //! each seed from FIRST (0) on. Every second seed makes a session as sensors write it too, the others a template with its session, and two corrections
-//! of one stream in both orders; half of them make journals of corrections, and all of them two revisions to compare. Answers, offsets, whose they are, and every
+//! of one stream in both orders; half of them make journals of corrections, all of them two revisions to compare and a stream with unused strings, every
+//! fourth a session with them. Answers, offsets, whose they are, and every
 //! lent byte, unit, number and word before and after must agree. Prints how often each refusal was met; the exit status is 1 where there was a difference, or where
 //! a refusal was met fewer than a hundred times in a run of 100,000 seeds or more.
 
+mod compacting;
 mod journals;
 mod orders;
 mod pairs;
@@ -44,6 +46,7 @@ struct Met {
     orders: orders::Met,
     journals: journals::Met,
     revisions: revisions::Met,
+    compacting: compacting::Met,
 }
 
 impl Met {
@@ -52,7 +55,8 @@ impl Met {
         let pairs = places.chain(self.pairs.wanted());
         let orders = pairs.chain(self.orders.wanted());
         let journals = orders.chain(self.journals.wanted());
-        journals.chain(self.revisions.wanted()).collect()
+        let revisions = journals.chain(self.revisions.wanted());
+        revisions.chain(self.compacting.wanted()).collect()
     }
 }
 
@@ -339,6 +343,7 @@ impl Comparison {
             self.journals(seed);
         }
         self.revisions(seed);
+        self.compacting(seed);
     }
 }
 
@@ -487,6 +492,7 @@ fn main() -> ExitCode {
         comparison.longest_pair(seed, &stream);
         comparison.longest_revision(seed, &stream);
     }
+    comparison.longest_new(whole);
     for seed in first..first + count {
         comparison.all(seed);
     }

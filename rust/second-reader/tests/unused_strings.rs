@@ -929,3 +929,51 @@ fn large_streams_keep_what_they_show() {
         assert!(compacted(&new) == new);
     }
 }
+
+/// The stored stream, and what it is without its unused strings, put together by
+/// hand after K13: alone, and as a session over a template.
+#[test]
+fn the_stored_stream() {
+    let old = include_bytes!("../../../cases/unused-strings.in");
+    let new = include_bytes!("../../../cases/used-strings.in");
+    let template = include_bytes!("../../../cases/template.in");
+    assert_eq!(compacted(old), new);
+    assert_eq!(compacted(new), new);
+    let ask = |buffer: &mut [u8]| compact_session(template, old, buffer);
+    let session = written(old, ask, Err(PairRefusal::Question(TOO_SHORT)));
+    assert_eq!(session, new);
+}
+
+/// Streams and sessions that are made for it: records that go and that stay, strings
+/// of all widths and splits, used or not.
+#[test]
+fn made_for_it() {
+    let mut grown = 0;
+    for seed in 0..3_000 {
+        let old = streams::valid_with_unused(seed);
+        let new = compacted(&old);
+        assert_same_but_smaller(&old, &new);
+        assert!(compacted(&new) == new, "seed {seed} a second time");
+        grown += u32::from(new.len() > old.len());
+    }
+    assert!(grown > 5, "{grown}");
+    let mut own = 0;
+    for seed in 0..3_000 {
+        let streams::Pair { template, session } = streams::pair_with_unused(seed);
+        if pair_check(&template, &session).is_err() {
+            continue;
+        }
+        let ask = |buffer: &mut [u8]| compact_session(&template, &session, buffer);
+        let new = written(&session, ask, Err(PairRefusal::Question(TOO_SHORT)));
+        assert!(staying(&session) == staying(&new), "seed {seed}");
+        let ask = |buffer: &mut [u8]| compact_session(&template, &new, buffer);
+        let again = written(&new, ask, Err(PairRefusal::Question(TOO_SHORT)));
+        assert!(again == new, "seed {seed} a second time");
+        if check(&session).is_ok() {
+            // It has strings of its own, or no text cell: then it is as alone.
+            assert!(compacted(&session) == new, "seed {seed}");
+            own += 1;
+        }
+    }
+    assert!(own > 500, "{own}");
+}

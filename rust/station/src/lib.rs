@@ -24,21 +24,24 @@
 //!
 //! Many sessions may share the sheets and strings of one template: [`mod@pair`] has the questions over both.
 //! [`journal`] keeps what was corrected, and makes it again or takes it back.
+//! [`compact`] leaves out the shared strings that no cell uses.
 //!
-//! - A stream has at most 16,777,216 bytes; a longer one is refused with number 1.
+//! - A stream has at most [`LONGEST_STREAM`] bytes; a longer one is refused with number 1.
 //! - After a refusal all lent memory holds what it held.
 //! - The library has no state, allocates nothing and takes no lock: any number of threads may ask at the same time, about one stream or many.
-//!   Of this layer [`Strings`] has a buffer on the heap, of [`LONGEST_STRING`] units, [`StringPlaces`] a table of two numbers for each string, and
-//!   [`Differences`] one of up to a million words.
+//!   Of this layer [`Strings`] has a buffer on the heap, of [`LONGEST_STRING`] units, [`StringPlaces`] a table of two numbers for each string,
+//!   [`Differences`] one of up to a million words, and [`compacted`] gives a new stream.
 //! - No question needs more than 64 KB of stack, whatever the stream; a [`Cells`], which holds a batch of them, is 4 KB large itself.
 
 #![warn(missing_docs)]
 
+mod compaction;
 mod comparison;
 pub mod journal;
 pub mod pair;
 mod raw;
 
+pub use compaction::{compact, compacted, Compacted};
 pub use comparison::{
     compare, compare_from, Difference, DifferenceKind, Differences, Listed, Side, SideRefused,
 };
@@ -82,7 +85,10 @@ impl std::error::Error for Refusal {}
 
 /// What the refusals mean.
 const MEANINGS: [(u8, &str); 21] = [
-    (1, "the stream is longer than 16,777,216 bytes"),
+    (
+        1,
+        "the stream, or the new one that is asked for, is longer than 16,777,216 bytes",
+    ),
     (
         2,
         "a record's header or body passes the end of the stream, or its body is over 8,224 bytes",
@@ -107,7 +113,7 @@ const MEANINGS: [(u8, &str); 21] = [
     (11, "the sheet, string or cell asked for is absent"),
     (
         12,
-        "the buffer has fewer units than the string, the table under two numbers for each string, or the journal no room",
+        "the buffer has fewer units than the string or fewer bytes than the new stream, the table under two numbers for each string, or the journal no room",
     ),
     (
         13,
@@ -284,6 +290,9 @@ pub fn text(
     settled(answer.number, answer.offset)?;
     Ok(answer.units)
 }
+
+/// No stream may have more bytes.
+pub const LONGEST_STREAM: usize = 16_777_216;
 
 /// No shared string and no formula's text has more units: its length is 16 bits.
 pub const LONGEST_STRING: usize = 65_535;

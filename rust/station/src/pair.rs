@@ -33,8 +33,8 @@
 //! A [`Pair`] has made both checks, and reads on without another; each of the functions beside it makes them anew.
 
 use crate::{
-    raw, settled, Cell, Cells, NewValue, Place, Refusal, Sheet, SheetKind, StringPlace,
-    StringPlaces, Strings, Workbook,
+    compaction, raw, settled, Cell, Cells, Compacted, NewValue, Place, Refusal, Sheet, SheetKind,
+    StringPlace, StringPlaces, Strings, Workbook,
 };
 use std::fmt;
 
@@ -80,7 +80,7 @@ impl fmt::Display for Whose {
     }
 }
 
-/// A refusal over a pair: of one of the streams by its check, at an offset in that stream; or of the question (11, 12, 16, 17, 18), which is no stream's fault.
+/// A refusal over a pair: of one of the streams by its check, at an offset in that stream; or of the question (11, 12, 16, 17, 18; 1 for a new stream), which is no stream's fault.
 /// Shown, it says whose: `refused 5 at 20 of template: the workbook is encrypted`.
 #[derive(Clone, Copy, Debug, PartialEq, Eq)]
 pub struct Refused {
@@ -463,4 +463,41 @@ pub fn fill(
     };
     passed(answer.whose, answer.number, answer.offset)?;
     Ok((answer.template_strings, answer.session_strings))
+}
+
+/// Checks both, then puts the session without the strings of its own table that it doesn't use at the front of the buffer, as [`crate::compact`] does for one
+/// stream. A session without a table gets none, and its indices stay: they mean the template's strings. 1 for the new stream and 12 are the question's.
+///
+/// ```
+/// use station::pair;
+///
+/// let template = std::fs::read("../../cases/template.in").expect("a template");
+/// let session = std::fs::read("../../cases/day.in").expect("a session");
+/// let new = pair::compacted(&template, &session)?;
+/// let cells = |session| pair::cells(&template, session, 0).map(|(_, cells)| cells.map(|cell| cell.value()));
+/// assert!(cells(&new)?.eq(cells(&session)?));
+///
+/// let refused = pair::compact(&template, &session, &mut []).expect_err("no room");
+/// assert_eq!((refused.whose, refused.refusal.number), (None, 12));
+/// # Ok::<(), pair::Refused>(())
+/// ```
+pub fn compact(template: &[u8], session: &[u8], buffer: &mut [u8]) -> Result<Compacted, Refused> {
+    // SAFETY: the slices are valid for their lengths, and the buffer is lent to this call alone.
+    let answer = unsafe {
+        raw::station_pair_compact(
+            template.as_ptr(),
+            template.len(),
+            session.as_ptr(),
+            session.len(),
+            buffer.as_mut_ptr(),
+            buffer.len(),
+        )
+    };
+    passed(answer.whose, answer.number, answer.offset)?;
+    Ok(Compacted::of(session, answer.written))
+}
+
+/// The session without its unused strings, as [`compact`] writes it. Never refused with 12.
+pub fn compacted(template: &[u8], session: &[u8]) -> Result<Vec<u8>, Refused> {
+    compaction::made(|buffer| compact(template, session, buffer))
 }

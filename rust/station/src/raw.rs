@@ -166,6 +166,21 @@ pub struct Compared {
 }
 
 #[repr(C)]
+pub struct Compacted {
+    pub number: u8,
+    pub offset: usize,
+    pub written: usize,
+}
+
+#[repr(C)]
+pub struct PairCompacted {
+    pub whose: u8,
+    pub number: u8,
+    pub offset: usize,
+    pub written: usize,
+}
+
+#[repr(C)]
 pub struct Profile {
     pub number: u8,
     pub offset: usize,
@@ -420,6 +435,20 @@ extern "C" {
         journal_length: usize,
         backwards: bool,
     ) -> PairReplayed;
+    pub fn station_compact(
+        stream: *const u8,
+        length: usize,
+        new_stream: *mut u8,
+        room: usize,
+    ) -> Compacted;
+    pub fn station_pair_compact(
+        template: *const u8,
+        template_length: usize,
+        session: *const u8,
+        session_length: usize,
+        new_stream: *mut u8,
+        room: usize,
+    ) -> PairCompacted;
     pub fn station_profile(stream: *const u8, length: usize) -> Profile;
     pub fn station_cadence(stream: *const u8, length: usize, row: u32) -> Pair;
     pub fn station_pairs(stream: *const u8, length: usize) -> Pairs;

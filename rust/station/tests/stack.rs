@@ -56,6 +56,7 @@ struct Desk {
     table: Vec<u32>,
     template_table: Vec<u32>,
     journal: Vec<u8>,
+    new_stream: Vec<u8>,
     check: raw::Check,
     sheet: raw::Sheet,
 }
@@ -102,7 +103,7 @@ fn touched(stack: &mut [u8], question: Question, desk: &mut Desk) -> usize {
 }
 
 /// Each C function. They come in an order in which one has the places that it needs from those before it.
-const QUESTIONS: [(&str, Question); 33] = [
+const QUESTIONS: [(&str, Question); 35] = [
     ("station_version", |_| {
         // SAFETY: it takes nothing.
         black_box(unsafe { raw::station_version() });
@@ -304,6 +305,18 @@ const QUESTIONS: [(&str, Question); 33] = [
             });
         }
     }),
+    ("station_compact", |desk| {
+        let Desk {
+            stream, new_stream, ..
+        } = desk;
+        let (lent, room) = (new_stream.as_mut_ptr(), new_stream.len());
+        black_box(unsafe { raw::station_compact(stream.as_ptr(), stream.len(), lent, room) });
+    }),
+    ("station_pair_compact", |desk| {
+        let (template, length, session, own) = pair(desk);
+        let (lent, room) = (desk.new_stream.as_mut_ptr(), desk.new_stream.len());
+        black_box(unsafe { raw::station_pair_compact(template, length, session, own, lent, room) });
+    }),
     ("station_profile", |desk| {
         let Desk { stream, .. } = desk;
         black_box(unsafe { raw::station_profile(stream.as_ptr(), stream.len()) });
@@ -358,6 +371,7 @@ fn named_streams() -> Vec<(String, Vec<u8>)> {
     for kind in streams::Hostile::ALL {
         named.push((format!("{kind:?}"), streams::hostile(kind, 100_000).0));
     }
+    named.push(("half used".to_string(), streams::half_used(1_000_000)));
     let longest = streams::big(streams::Big::Reversed, 16_777_216);
     named.push(("the longest, reversed".to_string(), longest));
     named
@@ -375,6 +389,7 @@ fn deepest_formula() -> Vec<u8> {
 }
 
 fn desk(stream: Vec<u8>) -> Desk {
+    let room = stream.len() + 1;
     // SAFETY: an empty slice is valid; what it answers is nothing.
     let (check, sheet) = unsafe {
         let nothing: &[u8] = &[];
@@ -395,6 +410,7 @@ fn desk(stream: Vec<u8>) -> Desk {
         table: vec![0; 700_000],
         template_table: vec![0; 8],
         journal: vec![0; 1_000],
+        new_stream: vec![0; room],
         check,
         sheet,
     }
@@ -429,14 +445,18 @@ fn no_question_needs_more_than_the_header_says() {
     }
 }
 
+/// The streams, units, words and tables that are lent.
+type Lent = ([Vec<u8>; 2], Vec<u16>, Vec<u64>, [Vec<u32>; 2]);
+
 /// What is lent to the questions holds afterwards, once each has been asked.
-fn lent_after(stream: Vec<u8>) -> (Vec<u8>, Vec<u16>, Vec<u64>, [Vec<u32>; 2]) {
+fn lent_after(stream: Vec<u8>) -> Lent {
     let mut desk = desk(stream);
     for (_, question) in QUESTIONS {
         question(&mut desk);
     }
     let tables = [desk.template_table, desk.table];
-    (desk.stream, desk.units, desk.words, tables)
+    let streams = [desk.stream, desk.new_stream];
+    (streams, desk.units, desk.words, tables)
 }
 
 /// An embedder's small thread, for sheets in order and out of order.

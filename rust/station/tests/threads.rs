@@ -1,7 +1,7 @@
 //! Many threads ask at the same time, about one stream and about copies of it: each gets what it would get alone.
 
 use station::pair::{self, Whose};
-use station::{cells, check, compare, correct, fetch, judge, pairs, text};
+use station::{cells, check, compacted, compare, correct, fetch, judge, pairs, text};
 use station::{Cell, Difference, NewValue, Pair, Refusal};
 use std::sync::Barrier;
 use std::thread;
@@ -14,8 +14,8 @@ const DAY: &[u8] = include_bytes!("../../../cases/day.in");
 const THREADS: usize = 8;
 const TURNS: usize = 200;
 
-/// All questions: counts, sheets with their cells, strings, judgements, a corrected copy and what differs in it, the text of a formula, and
-/// the pairs of a session.
+/// All questions: counts, sheets with their cells, strings, judgements, a corrected copy and what differs in it, a copy without its unused strings, the text of
+/// a formula, and the pairs of a session.
 fn answers(stream: &[u8]) -> impl PartialEq + std::fmt::Debug {
     let workbook = check(stream).expect("a stream that passes");
     let sheets: Vec<(Vec<u16>, u32)> = workbook
@@ -33,8 +33,9 @@ fn answers(stream: &[u8]) -> impl PartialEq + std::fmt::Debug {
     let corrected = correct(&mut copy, 0, 0, 1, NewValue::Number(2.5));
     let changed = compare(stream, &copy).map(Iterator::collect::<Vec<Difference>>);
     let ridden: Result<Vec<Pair>, Refusal> = pairs(RIDE).map(Iterator::collect);
+    let small = compacted(stream);
     (
-        (sheets, listed, strings, fetched, units),
+        (sheets, listed, strings, fetched, units, small),
         (text, judged, corrected, copy, changed, ridden),
     )
 }
@@ -64,7 +65,8 @@ fn calls(session: &[u8], turn: usize) -> impl PartialEq + std::fmt::Debug {
     let granted = pair::correct(TEMPLATE, &mut session, 0, 1, 1, value);
     let aimed = pair::correct(TEMPLATE, &mut session, 1, 0, 0, NewValue::Text(0));
     let text = pair::text(TEMPLATE, &session, 1, 1, 0, &mut buffer);
-    (first, granted, aimed, text, buffer, session)
+    let small = pair::compacted(TEMPLATE, &session);
+    (first, granted, aimed, text, buffer, session, small)
 }
 
 /// Two sessions of one template, each with its owner: however their calls fall together, each gets what its calls alone give.

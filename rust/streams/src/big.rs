@@ -115,7 +115,7 @@ fn append_table(rng: &mut Rng, stream: &mut Vec<u8>, big: Big, bytes: usize) -> 
     loop {
         match big {
             Big::EmptyStrings => table.whole_string(&[0, 0, 0]),
-            _ => table.random_string(rng),
+            _ => table.random_string(rng, 40),
         }
         if table.stream.len() + 120 > BOF_SIZE + BOUNDSHEET_SIZE + room {
             break;
@@ -192,9 +192,9 @@ impl<'s> TableWriter<'s> {
         self.unique += 1;
     }
 
-    /// A string of 1 to 40 characters, split where a segment ends.
-    fn random_string(&mut self, rng: &mut Rng) {
-        let length = rng.between(1, 40);
+    /// A string of one character or more, split where a segment ends.
+    pub fn random_string(&mut self, rng: &mut Rng, longest: usize) {
+        let length = rng.between(1, longest);
         let wide = rng.percent(25);
         let width = 1 + usize::from(wide);
         if self.room() < 3 + width {

@@ -25,6 +25,7 @@ mod sessions;
 mod table;
 mod text_results;
 mod trailing;
+mod unused;
 mod workbook;
 
 pub use big::Big;
@@ -224,6 +225,41 @@ pub fn valid_revisions(seed: u64) -> Revisions {
 /// room for more than there are, for fewer, or for none.
 pub fn batch(seed: u64, words: &[u64]) -> Batch {
     questions::batch(&mut Rng::for_purpose(seed, 32), words)
+}
+
+/// A stream of any sort for its unused strings to be left out of.
+pub fn with_unused(seed: u64) -> Vec<u8> {
+    unused::any(&mut Rng::for_purpose(seed, 50))
+}
+
+/// The same where it breaks no rule.
+pub fn valid_with_unused(seed: u64) -> Vec<u8> {
+    unused::valid(&mut Rng::for_purpose(seed, 51)).write()
+}
+
+/// A template and a session of any sort, for the session's unused strings to be
+/// left out.
+pub fn pair_with_unused(seed: u64) -> Pair {
+    unused::pair(&mut Rng::for_purpose(seed, 52))
+}
+
+/// How many bytes are lent for a new stream of so many: more, as many, one less,
+/// and none.
+pub fn rooms(seed: u64, written: usize) -> [usize; 4] {
+    unused::rooms(&mut Rng::for_purpose(seed, 53), written)
+}
+
+/// A valid stream that has this many bytes, at least 5,000, once its unused
+/// strings are left out, and fewer before: it has none, but a string that is
+/// written in another width. The rest is zeros at its end.
+pub fn growing(seed: u64, written: usize) -> Vec<u8> {
+    unused::growing(&mut Rng::for_purpose(seed, 54), written)
+}
+
+/// A large valid stream of exactly so many bytes, at least 400: a shared string
+/// for each forty bytes, of which text cells show every second.
+pub fn half_used(bytes: usize) -> Vec<u8> {
+    unused::half_used(bytes)
 }
 
 /// A large valid stream of exactly so many bytes, at least 200.

@@ -32,6 +32,12 @@ pub struct PairFetch {
 /// Mostly both are valid; else the one, the other or both are damaged, or an
 /// index of the session is at a count or past it.
 pub(crate) fn any(rng: &mut Rng) -> Pair {
+    any_with(rng, |_, _, _| {})
+}
+
+/// The same with something done to the session before it is damaged, over a
+/// template that has so many strings.
+pub(crate) fn any_with(rng: &mut Rng, dress: impl FnOnce(&mut Rng, &mut Book, u32)) -> Pair {
     let book = workbook::valid(rng, false).0;
     let damaged = rng.below(20);
     let template = match damaged {
@@ -42,6 +48,7 @@ pub(crate) fn any(rng: &mut Rng) -> Pair {
     };
     let lent = unique_strings(&template).min(100_000);
     let mut book = workbook::session(rng, lent);
+    dress(rng, &mut book, lent);
     let session = match damaged {
         0 | 5..=8 => damage::damaged(rng, book),
         9 => noise(rng),

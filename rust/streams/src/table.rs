@@ -12,8 +12,14 @@ pub(crate) struct Style {
     /// How many times of a hundred a segment ends at a place where it may.
     pub break_percent: usize,
     pub longest: usize,
-    /// How many times of a hundred a string has runs, and phonetic bytes.
+    /// How many times of a hundred a string has runs, and phonetic bytes, and how
+    /// many of them at most.
     pub extras_percent: usize,
+    pub most_runs: usize,
+    pub most_phonetic: usize,
+    /// How many times of a hundred the wide characters of a string are such as
+    /// go into a byte.
+    pub plain_percent: usize,
 }
 
 impl Style {
@@ -23,6 +29,9 @@ impl Style {
             break_percent: rng.pick(&[0, 0, 2, 10, 35, 60]),
             longest: rng.pick(&[3, 12, 40, long]).min(budget.max(3)),
             extras_percent: rng.pick(&[0, 10, 50]),
+            most_runs: 9,
+            most_phonetic: 30,
+            plain_percent: 0,
         }
     }
 }
@@ -35,17 +44,25 @@ pub(crate) struct Table {
     /// The units of each string, if they are to be kept.
     pub strings: Option<Vec<Vec<u16>>>,
     style: Style,
+    /// Whether the wide characters of the string being written go into a byte.
+    plain: bool,
 }
 
 impl Table {
     /// A table of about so many bytes.
     pub fn make(rng: &mut Rng, budget: usize, keep: bool) -> Self {
         let style = Style::pick(rng, budget);
+        Table::in_style(rng, budget, keep, style)
+    }
+
+    /// A table of about so many bytes, laid out like this.
+    pub fn in_style(rng: &mut Rng, budget: usize, keep: bool, style: Style) -> Self {
         let mut table = Table {
             segments: vec![rng.bytes(8)],
             unique: 0,
             strings: keep.then(Vec::new),
             style,
+            plain: false,
         };
         let most = rng.mostly_small(0, 2_000);
         let mut size = 8;
@@ -65,6 +82,7 @@ impl Table {
             unique: 0,
             strings: Some(Vec::new()),
             style: Style::pick(rng, budget),
+            plain: false,
         };
         let wide = rng.percent(40);
         let length = if budget > FULL && rng.percent(15) {
@@ -112,10 +130,15 @@ impl Table {
     fn append_string(&mut self, rng: &mut Rng, budget: usize) -> usize {
         let length = self.pick_length(rng, budget);
         let wide = rng.percent(40);
+        // No number is drawn where it is never so.
+        let plain_percent = self.style.plain_percent;
+        self.plain = plain_percent > 0 && rng.percent(plain_percent);
         let rich = rng.percent(self.style.extras_percent);
         let phonetic = rng.percent(self.style.extras_percent);
-        let runs = if rich { rng.mostly_small(0, 9) } else { 0 };
-        let phonetic_size = if phonetic { rng.mostly_small(0, 30) } else { 0 };
+        let (most_runs, most_phonetic) = (self.style.most_runs, self.style.most_phonetic);
+        let runs = rich.then(|| rng.mostly_small(0, most_runs));
+        let phonetic_size = phonetic.then(|| rng.mostly_small(0, most_phonetic));
+        let (runs, phonetic_size) = (runs.unwrap_or(0), phonetic_size.unwrap_or(0));
         let mut head = Vec::with_capacity(9);
         head.extend((length as u16).to_le_bytes());
         head.push(flags(rng, wide, phonetic, rich));
@@ -157,9 +180,13 @@ impl Table {
                 most
             };
             let keeping = self.strings.is_some();
+            let plain = self.plain;
             let segment = self.segment();
             let from = segment.len();
             rng.append(segment, count * width(wide));
+            if plain && wide {
+                segment[from..].chunks_mut(2).for_each(|unit| unit[1] = 0);
+            }
             if keeping {
                 append_units(&segment[from..], wide, &mut units);
             }

@@ -7,8 +7,8 @@ use crate::outcome::{Failure, Output, Status};
 use crate::page::{Page, Part};
 use crate::text::Word;
 use crate::{
-    cadence, check, compare, completions, correct, export, help, journal, judge, lines, manual,
-    profile, report,
+    cadence, check, compact, compare, completions, correct, export, help, journal, judge, lines,
+    manual, profile, report,
 };
 use std::ffi::{OsStr, OsString};
 use std::io::Write;
@@ -30,7 +30,7 @@ pub struct Command {
     pub run: fn(&Arguments, &mut Output) -> Result<Status, Failure>,
 }
 
-pub static COMMANDS: [Command; 17] = [
+pub static COMMANDS: [Command; 18] = [
     check::CHECK,
     lines::SHEETS,
     report::REPORT,
@@ -39,6 +39,7 @@ pub static COMMANDS: [Command; 17] = [
     journal::JOURNAL,
     journal::REPLAY,
     compare::COMPARE,
+    compact::COMPACT,
     lines::LIST,
     lines::STRINGS,
     lines::FETCH,

@@ -3,11 +3,11 @@
 use crate::address::Address;
 use crate::arguments::{missing, too_many, Arguments, Operands, Setting};
 use crate::commands::Command;
-use crate::input::STANDARD;
 use crate::journal::Kept;
 use crate::outcome::{Failure, Output, Status};
 use crate::replace::Place;
 use crate::source::{Checked, Source, TEMPLATE};
+use crate::target::{self, NewStream};
 use crate::text::Word;
 use crate::value;
 use crate::wanted::Wanted;
@@ -214,34 +214,14 @@ fn index_of(text: &str, checked: &Checked<'_>) -> Option<u32> {
     (0..checked.string_count(checked.table())).find(|_| strings.next_units() == Some(&wanted))
 }
 
-/// Where the corrected stream goes.
-enum Target<'a> {
-    File(&'a OsStr),
-    Output,
-}
-
-impl<'a> Target<'a> {
-    fn of(arguments: &'a Arguments) -> Result<Self, Failure> {
-        match (arguments.option("--output"), arguments.has("--in-place")) {
-            (Some(out), false) if out == STANDARD => Ok(Target::Output),
-            (Some(out), false) => Ok(Target::File(out)),
-            (None, true) if arguments.operand(0) == STANDARD => Err(Failure::usage(
-                "standard input can't be replaced: --output is needed",
-            )),
-            (None, true) => Ok(Target::File(arguments.operand(0))),
-            _ => Err(Failure::usage("one of --output and --in-place is needed")),
-        }
-    }
-}
-
 fn run(arguments: &Arguments, out: &mut Output) -> Result<Status, Failure> {
     let question = Question::of(arguments)?;
-    match Target::of(arguments)? {
-        Target::File(name) => to_file(arguments, &question, name, out),
-        Target::Output if arguments.has("--journal") => Err(Failure::usage(
+    match NewStream::of(arguments)?.ok_or_else(target::one_needed)? {
+        NewStream::File(name) => to_file(arguments, &question, name, out),
+        NewStream::Output if arguments.has("--journal") => Err(Failure::usage(
             "--journal goes with a file that is replaced together with it",
         )),
-        Target::Output => to_output(arguments, &question, out),
+        NewStream::Output => to_output(arguments, &question, out),
     }
 }
 

@@ -14,11 +14,8 @@ use std::path::Path;
 /// The word for standard input, and for standard output where something is written.
 pub const STANDARD: &str = "-";
 
-/// So many bytes a stream may have.
-pub const LONGEST: usize = 16_777_216;
-
-/// One byte more: enough for the library to refuse it, however long the file is.
-const ENOUGH: u64 = LONGEST as u64 + 1;
+/// One byte more than a stream may have: enough for the library to refuse it, however long the file is.
+const ENOUGH: u64 = station::LONGEST_STREAM as u64 + 1;
 
 /// The bytes of a stream, and the name they go by.
 pub struct Stream<'n> {

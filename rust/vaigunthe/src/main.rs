@@ -10,6 +10,7 @@ mod book;
 mod cadence;
 mod check;
 mod commands;
+mod compact;
 mod compare;
 mod completions;
 mod correct;

@@ -122,6 +122,15 @@ impl<'n> Source<'n> {
         }
     }
 
+    /// The stream, or the session, without its unused strings.
+    pub fn compacted(&self) -> Result<Vec<u8>, Refused> {
+        let session = &self.session.bytes;
+        match self.lent() {
+            None => Ok(station::compacted(session)?),
+            Some(template) => pair::compacted(template, session),
+        }
+    }
+
     /// Starts a journal of the corrections.
     pub fn start_journal(&self) -> Result<Journal<Vec<u8>>, Refused> {
         let session = &self.session.bytes;

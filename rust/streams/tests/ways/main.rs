@@ -10,6 +10,7 @@ mod sessions;
 mod text_results;
 mod tokens;
 mod trailing;
+mod unused;
 
 use second_reader::Refusal;
 use std::collections::BTreeMap;

@@ -3,14 +3,14 @@
 use super::document::length;
 use super::marks::{Marked, Marks};
 use crate::arguments::Arguments;
-use crate::input::{Stream, LONGEST, STANDARD};
+use crate::input::{Stream, STANDARD};
 use crate::outcome::{complain, Failure};
 use crate::source::{self, Checked, TEMPLATE};
 use crate::text::Name;
 use crate::{compare, journal, sha256};
 use station::journal::{Direction, Journal, Unreplayed};
 use station::pair::{Refused, Whose};
-use station::Refusal;
+use station::{Refusal, LONGEST_STREAM};
 use std::ffi::{OsStr, OsString};
 
 /// The options by which cells of the one workbook are marked.
@@ -104,7 +104,7 @@ impl<'n> Beside<'n> {
 
 /// Of a stream that is too long only the start was read.
 pub fn digest(bytes: &[u8]) -> String {
-    match bytes.len() > LONGEST {
+    match bytes.len() > LONGEST_STREAM {
         true => "not taken of so long a file".to_string(),
         false => sha256::hex(bytes),
     }

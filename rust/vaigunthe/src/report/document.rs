@@ -2,8 +2,8 @@
 
 use super::workbook::{Found, Section};
 use crate::figures::{counted, grouped};
-use crate::input::LONGEST;
 use crate::text::WordsInPage;
+use station::LONGEST_STREAM;
 use std::io::{self, Write};
 
 const STYLE: &str = include_str!("style.css");
@@ -60,8 +60,8 @@ pub fn write<W: Write>(
 
 /// How many bytes a stream has. Of one that is too long no more was read than tells that.
 pub fn length(bytes: usize) -> String {
-    let read = grouped(bytes.min(LONGEST) as f64, 0);
-    match bytes > LONGEST {
+    let read = grouped(bytes.min(LONGEST_STREAM) as f64, 0);
+    match bytes > LONGEST_STREAM {
         true => format!("over {read}"),
         false => read,
     }

@@ -40,6 +40,7 @@ fn bash_completes() {
         offered(&["compare", "session.bin", "--ex"]),
         ["--exit-code"]
     );
+    assert_eq!(offered(&["compact", "session.bin", "--dr"]), ["--dry-run"]);
     assert_eq!(offered(&["correct", "session.bin", "0", "tr"]), ["truth"]);
     assert_eq!(offered(&["check", "sess"]), ["session.bin"]);
     assert_eq!(offered(&["check", "--he"]), ["--help"]);

@@ -4,6 +4,7 @@
 mod browser;
 mod cadence;
 mod check;
+mod compact;
 mod compare;
 mod completions;
 mod correct;

@@ -37,6 +37,7 @@ fn prints_what_the_readme_says() {
         ("ride.bin", "ride.in"),
         ("template.bin", "template.in"),
         ("day.bin", "day.in"),
+        ("labels.bin", "unused-strings.in"),
     ] {
         folder.put(name, &fs::read(case(sample)).expect("the sample"));
     }

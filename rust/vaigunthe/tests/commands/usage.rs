@@ -9,7 +9,7 @@ use std::fs::{self, File};
 use std::io::Read;
 use std::process::{Command, Stdio};
 
-pub const COMMANDS: [&str; 17] = [
+pub const COMMANDS: [&str; 18] = [
     "check",
     "list",
     "sheets",
@@ -22,6 +22,7 @@ pub const COMMANDS: [&str; 17] = [
     "journal",
     "replay",
     "compare",
+    "compact",
     "profile",
     "cadence",
     "help",
@@ -261,7 +262,7 @@ fn a_reader_that_has_seen_enough() {
     let file = folder.put("in", &streams::big(streams::Big::Numbers, 3_000_000));
     let ride = folder.put("ride", &made::session(&[[1, 2, 3]; 10_000]));
     let fewer = folder.put("fewer", &streams::big(streams::Big::Numbers, 200));
-    let calls: [&[std::ffi::OsString]; 12] = [
+    let calls: [&[std::ffi::OsString]; 13] = [
         words!["report", file, "--full"],
         words!["compare", file, fewer],
         words!["compare", file, fewer, "--lines"],
@@ -274,6 +275,7 @@ fn a_reader_that_has_seen_enough() {
         words!["export", file, "--csv"],
         words!["export", file, "--json"],
         words!["correct", file, "0", "0", "0", "number", "1", "--output", "-"],
+        words!["compact", file, "--output", "-"],
     ];
     for words in calls {
         let mut child = Command::new(TOOL)

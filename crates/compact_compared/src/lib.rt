@@ -1,0 +1,1 @@
+// A stream compared with itself without its unused strings. No code.

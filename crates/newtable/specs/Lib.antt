@@ -1,0 +1,2 @@
+pub mod NewTable
+pub mod Claims

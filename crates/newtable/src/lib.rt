@@ -1,0 +1,1 @@
+// The new string table of a stream whose unused strings are dropped: definitions and theorems only.

@@ -1,0 +1,32 @@
+use Rattle.tablechunks.proofs.Laws.{chunk-laws}
+use borrow.Author.Needs.{needs}
+use Rattle.tablechunks.proofs.put_chunk.Statement.{statement}
+use Rattle.tablechunks.proofs.put_chunk.Tie as tie
+use Rattle.tablechunks.proofs.put_chunk.Reads as reads
+use Rattle.tablechunks.proofs.put_chunk.Lts as lts
+use Rattle.marking.proofs.mark.Reads as mark-reads
+use Rattle.tablewriter.proofs.put_texts.Reads as put-texts-reads
+
+-- src/lib.rt:66:5
+mark-requires : tie.Need-mark-requires
+mark-requires c κs = search (chunk-laws, needs)
+
+-- src/lib.rt:67:5
+put-texts-requires : tie.Need-put-texts-requires
+put-texts-requires c κs = (search (chunk-laws, needs), search (chunk-laws, needs), search (chunk-laws, needs), search (chunk-laws, needs), search (chunk-laws, needs))
+
+-- src/lib.rt:53:1
+same-length : tie.Need-same-length
+same-length c = search (chunk-laws, needs)
+
+-- src/lib.rt:53:1
+same-length-2 : tie.Need-same-length-2
+same-length-2 c = search (chunk-laws, needs)
+
+-- src/lib.rt:53:1
+returns : tie.Need-returns
+returns c = (search (chunk-laws, needs), (search (chunk-laws, needs), search (chunk-laws, needs)))
+
+pub put-chunk-spec : {M : Type 1} → statement M
+put-chunk-spec =
+    tie.close (tie.spec mark-requires put-texts-requires same-length same-length-2 returns)

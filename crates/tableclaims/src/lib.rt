@@ -1,0 +1,1 @@
+// Theorems over the string table that is written anew. No code.

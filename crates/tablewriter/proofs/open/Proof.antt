@@ -1,0 +1,31 @@
+use Rattle.tablewriter.proofs.Laws.{store-laws}
+use borrow.Author.Needs.{needs}
+use Rattle.tablewriter.proofs.open.Statement.{statement}
+use Rattle.tablewriter.proofs.open.Tie as tie
+use Rattle.tablewriter.proofs.open.Reads as reads
+use Rattle.tablewriter.proofs.open.Lts as lts
+use Rattle.le.proofs.put.Reads as put-reads
+use Rattle.tablewriter.proofs.close.Reads as close-reads
+
+-- src/lib.rt:41:5
+close-requires : tie.Need-close-requires
+close-requires c κs = search needs
+
+-- src/lib.rt:42:5
+put-requires : tie.Need-put-requires
+put-requires c κs = search needs
+
+-- src/lib.rt:45:13
+add-t8 : tie.Need-add-t8
+add-t8 c = search needs
+
+-- src/lib.rt:37:1
+same-length : tie.Need-same-length
+same-length c = search needs
+
+-- src/lib.rt:37:1
+returns : tie.Need-returns
+returns c = search store-laws
+
+pub open-spec : {M : Type 1} → statement M
+open-spec = tie.close (tie.spec close-requires put-requires add-t8 same-length returns)

@@ -1,0 +1,54 @@
+use Rattle.tablewriter.proofs.Starts.{start-laws}
+use borrow.Author.Needs.{needs}
+use Rattle.tablewriter.proofs.put_start.Statement.{statement}
+use Rattle.tablewriter.proofs.put_start.Tie as tie
+use Rattle.tablewriter.proofs.put_start.Reads as reads
+use Rattle.tablewriter.proofs.put_start.Lts as lts
+use Rattle.tablewriter.proofs.add_start.Reads as add-start-reads
+use Rattle.tablewriter.proofs.open.Reads as open-reads
+use Rattle.tablewriter.proofs.start_size.Reads as start-size-reads
+
+-- src/lib.rt:223:9
+start-size-requires : tie.Need-start-size-requires
+start-size-requires c κs = search needs
+
+-- src/lib.rt:225:13
+open-requires : tie.Need-open-requires
+open-requires c κs = (search needs, search start-laws)
+
+-- src/lib.rt:226:9
+add-start-requires : tie.Need-add-start-requires
+add-start-requires c κs = (search needs, search start-laws, search start-laws)
+
+-- src/lib.rt:226:9
+same-length : tie.Need-same-length
+same-length c = search needs
+
+-- src/lib.rt:226:9
+returns : tie.Need-returns
+returns c = search start-laws
+
+-- src/lib.rt:228:5
+add-start-requires-2 : tie.Need-add-start-requires-2
+add-start-requires-2 c κs = (search needs, search start-laws, search start-laws)
+
+-- src/lib.rt:219:1
+same-length-2 : tie.Need-same-length-2
+same-length-2 c = search needs
+
+-- src/lib.rt:219:1
+returns-2 : tie.Need-returns-2
+returns-2 c = search start-laws
+
+pub put-start-spec : {M : Type 1} → statement M
+put-start-spec =
+    tie.close
+    (tie.spec
+    start-size-requires
+    open-requires
+    add-start-requires
+    same-length
+    returns
+    add-start-requires-2
+    same-length-2
+    returns-2)
