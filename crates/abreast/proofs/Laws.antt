@@ -8,12 +8,12 @@ use lib.ListN.{length, getD}
 use lib.Dec.{eqb, leb}
 use borrow.Author.Tests.{eqb-true, eqb-false}
 use Rattle.walk.specs.Choice.{pick}
-use Rattle.walk.proofs.Choice.{pick-true, pick-false, pick-any, pick-eq, pick-ne, never}
+use Rattle.walk.proofs.Choice.{pick-true, pick-false, pick-any, pick-eq, never}
 use Rattle.le.specs.Bytes.{numAt, u16At, u32At, u64At}
 use Rattle.record.specs.declared.Header.{Header}
-use Rattle.record.specs.declared.Header.the-variants.{Record, Cut, End}
+use Rattle.record.specs.declared.Header.the-variants.{Record}
 use Rattle.record.specs.Record.{headerAt}
-use Rattle.record.proofs.Laws.{Whole, whole}
+use Rattle.record.proofs.Laws.{whole}
 use Rattle.number.specs.declared.Rk.{Rk}
 use Rattle.number.specs.declared.Rk.the-variants.{Number as RkNumber, Nothing as RkNothing}
 use Rattle.number.specs.Rk.{rkOf}
@@ -23,9 +23,7 @@ use Rattle.value.specs.declared.FormulaResult.{FormulaResult}
 use Rattle.value.specs.declared.FormulaResult.the-variants as result
 use Rattle.value.specs.declared.CellValue.{CellValue}
 use Rattle.value.specs.declared.CellValue.the-variants as value
-use Rattle.value.specs.Value.{floatValue, rkValue, truthError, resultOf, valueOf, widthOf}
-use Rattle.cell.specs.declared.Shape.{Shape}
-use Rattle.cell.specs.declared.Shape.the-variants.{BLANK, NUMBER, RK, LABELSST, BOOLERR, MULRK, MULBLANK, FORMULA, OTHER}
+use Rattle.value.specs.Value.{floatValue, rkValue, truthError, resultOf, valueOf}
 use Rattle.cell.specs.declared.Cell.{Cell}
 use Rattle.cell.specs.Cells.{shapeOf, fieldOf, partOf, startOf, rowAt, firstAt, sized, lengthAt, countOf, fieldAt, cellFrom, cellsFrom, cellsOf}
 use Rattle.cell.proofs.Sizes.{count-lies, count-room}
@@ -37,12 +35,11 @@ use Rattle.reading.proofs.Laws.{record-cells}
 use Rattle.differences.specs.Differences.{none, same, shown, alike, wordsFrom}
 use Rattle.differences.specs.Units.{unitsBy}
 use Rattle.differences.proofs.Laws.{same-refl}
-use Rattle.addresses.specs.Addresses.{addressIn, Stood, nothing, holds, valueIn, AscendFrom, When, Past}
-use Rattle.addresses.proofs.Laws.{value-here, value-past, ascend-low, ascend-below, when-true, when-false}
+use Rattle.addresses.specs.Addresses.{addressIn, holds, AscendFrom, When, Past}
+use Rattle.addresses.proofs.Laws.{value-here, value-past, ascend-low, ascend-below}
 use Rattle.merge.specs.Merge.{atBoth, differs, wordsBetween}
 use Rattle.merge.proofs.Laws.{values-same}
-use Rattle.abreast.specs.declared.Both.{Both}
-use Rattle.abreast.specs.Abreast.{Common, Paired, Agree, Agrees, AllAgree, SameWords, Counted, Body, Same, SameIf, Ahead}
+use Rattle.abreast.specs.Abreast.{Paired, Agree, Agrees, AllAgree, SameWords, Counted, Body, Same, SameIf, Ahead}
 
 -- ---- cells that are paired tell nothing
 ascend-rest : (k : ℕ) (ones l : List Cell) → AscendFrom k (ones ++ l) → AscendFrom k l

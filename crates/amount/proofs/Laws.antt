@@ -9,7 +9,7 @@ use lib.Dec.{leb, lit<}
 use lib.Pow.{pow-add, pow-pos, pow-mono, pow-lt}
 use mir.Syntax.{w64}
 use mir.Val.{Fits}
-use borrow.Author.Tests.{lt-leb, leb-true, leb-false}
+use borrow.Author.Tests.{leb-true, leb-false}
 use Rattle.walk.proofs.Choice.{never, pick-by, pick-eq, pick-ne, pick-le, pick-nle}
 use Rattle.number.specs.Float64.{inUnits, floatSign, floatSize}
 use Rattle.number.proofs.Units.{units-small}
@@ -30,9 +30,6 @@ significand-fits b = omega (arith, significand-lt b)
 
 -- ---- the cases of the definition
 module _ (limit b : ℕ) where
-  plus : b / 2 ^ 52 < 2048 → floatSign b ≡ false
-  plus l = lt-leb (2 ^ 63) b (omega arith)
-
   -- the size is no whole number
   not-whole : (floatSize b % 2 ^ 1074 ≡ 0 → ⊥) → Unfit ≡ amountOf limit b
   unfolding amountOf

@@ -1,6 +1,6 @@
 -- Two corrections of one stream. Assumes nothing.
-use Prim.Native.Nat.{ℕ, zero, suc, _+_, _≤_, _<_}
-use mathlib.Core.Path.{_≡_, refl, sym, ap, ap₂, _∙_, subst}
+use Prim.Native.Nat.{ℕ, zero, suc, _+_, _≤_}
+use mathlib.Core.Path.{_≡_, refl, sym, ap, _∙_, subst}
 use mathlib.Core.List.{List, [], _∷_, map}
 use mathlib.Core.Bool.{Bool, true, false, _&&_}
 use mathlib.Core.Logic.{_⊎_, inl, inr}
@@ -36,7 +36,7 @@ use Rattle.reread.proofs.Lists.{nth-one}
 use Rattle.fields.specs.Fields.{Before, Frame, frameOf, Left}
 use Rattle.fields.proofs.Fields.{in-order, across-sheets}
 use Rattle.fields.proofs.Kept.{all-left}
-use Rattle.apart.specs.Apart.{Asked, outcome, after, Elsewhere, OneCell, AsAlone, EitherOrder, SecondAlone}
+use Rattle.apart.specs.Apart.{Asked, outcome, Elsewhere, OneCell, AsAlone, EitherOrder, SecondAlone}
 use Rattle.apart.proofs.Sets.{stored-apart, stored-over}
 
 -- ---- what a correction comes to depends on the frames of the cells alone

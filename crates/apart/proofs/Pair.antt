@@ -15,7 +15,7 @@ use Rattle.pair.specs.declared.Whose.{Whose}
 use Rattle.pair.specs.declared.PairChecked.{PairChecked}
 use Rattle.pair.specs.declared.PairChecked.the-variants as checked
 use Rattle.pair.specs.declared.PairCorrected.the-variants.{Granted}
-use Rattle.pair.specs.Pair.{pairOf, Passes, ofStream, onPair, PairCorrection, refuses, asked, pairCorrectionOf, answerOf, sessionAfter}
+use Rattle.pair.specs.Pair.{pairOf, Passes, ofStream, onPair, refuses, asked, pairCorrectionOf, answerOf, sessionAfter}
 use Rattle.pair.proofs.Laws.{passes-both}
 use Rattle.pair.proofs.Correcting.{asked-stream, pair-is}
 use Rattle.fields.proofs.Kept.{all-left}

@@ -10,7 +10,7 @@ use Rattle.reading.specs.Cells.{listedFrom}
 use Rattle.differences.specs.Differences.{wordsOf}
 use Rattle.differences.proofs.Laws.{words-agree}
 use Rattle.addresses.specs.declared.Head.{Head}
-use Rattle.addresses.specs.Addresses.{holds, valueIn, AscendFrom, Least, Follows, Onward}
+use Rattle.addresses.specs.Addresses.{holds, Least, Follows, Onward}
 use Rattle.addresses.proofs.Laws.{least-over, onward-over}
 use Rattle.merge.specs.Merge.{puts, putTo, atBoth, differs, wordsBetween}
 use Rattle.merge.proofs.Puts.{puts-part, to-part, length-puts, puts-full, to-stays}

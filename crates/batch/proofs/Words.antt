@@ -4,7 +4,6 @@ use mathlib.Core.Path.{_≡_, refl, ap, sym, _∙_}
 use mathlib.Core.Bool.{Bool, true, false}
 use mathlib.Core.List.{List, [], _∷_}
 use native.Mathlib.Omega.{arith}
-use lib.ListN.{length}
 use lib.Seq.{sets}
 use Rattle.walk.specs.Choice.{pick}
 use lib.Ieee.{binary64, ofBits}
@@ -20,7 +19,7 @@ use Rattle.value.specs.declared.Field.the-variants.{NoField, Float, RkWord, Tru
 use Rattle.value.specs.declared.CellValue.{CellValue}
 use Rattle.value.specs.declared.CellValue.the-variants.{Truth, Error}
 use Rattle.value.specs.declared.FormulaResult.{FormulaResult}
-use Rattle.value.specs.Value.{widthOf, floatValue, rkValue, truthError, resultNumber, markedResult, resultOf, valueOf}
+use Rattle.value.specs.Value.{widthOf, floatValue, rkValue, truthError, resultNumber, markedResult, valueOf}
 use Rattle.value.proofs.Laws.{number-is, marked-is}
 use Rattle.cell.specs.Cells.{partOf, startOf, rowAt, firstAt, fieldAt, tokensAt, cellFrom, cellOf}
 use Rattle.reading.specs.Reading.{trailingSize}

@@ -1,12 +1,11 @@
 // Cells in words, four a cell, as many at a time as a lent slice has room for: for those who take a listing across a border.
 ghost use mathlib.Core.Path.{_≡_};
-ghost use mathlib.Core.Logic.{_⊎_};
 ghost use Prim.Native.Nat.{_+_, _-_, _*_, _≤_, _<_};
 ghost use lib.ListN.{length};
 ghost use Rattle.le.specs.Bytes.{u16At};
 ghost use Rattle.record.specs.Record.{headerAt};
 ghost use Rattle.value.specs.Value.{valueOf};
-ghost use Rattle.cell.specs.Cells.{shapeOf, fieldOf, countOf, cellOf};
+ghost use Rattle.cell.specs.Cells.{shapeOf, cellOf};
 ghost use Rattle.reading.specs.Cells.{otherItem};
 ghost use Rattle.batch.specs.Parts.{oneWords, partsIn, PartRoom, PartsRoom, Did, spotIn, pastStep, Stepped};
 ghost use Rattle.batch.specs.Batch.{valueKind, valueWord, wordsOf, filledSeen, filledFrom};

@@ -168,7 +168,7 @@ fn between(earlier: u32, later: u32) -> u32
     0
 }
 
-pub fn pair(a: Row, b: Row) -> Cadence
+fn pair(a: Row, b: Row) -> Cadence
     ensures { λ r. ⌜ r ≡ pairOf a b ⌝ }
 {
     if 64 <= between(a.seconds, b.seconds) {

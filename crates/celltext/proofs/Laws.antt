@@ -5,11 +5,8 @@ use mathlib.Core.List.{List, [], _∷_}
 use mathlib.Core.Bool.{Bool, true, false}
 use native.Mathlib.Omega.{arith}
 use lib.ListN.{length}
-use Rattle.walk.specs.Choice.{pick}
-use Rattle.walk.proofs.Choice.{pick-any, pick-by, pick-true, pick-false}
+use Rattle.walk.proofs.Choice.{pick-true, pick-false}
 use Rattle.walk.specs.Items.{nth}
-use Rattle.record.specs.declared.Header.{Header}
-use Rattle.record.specs.declared.Header.the-variants.{Record}
 use Rattle.record.specs.Record.{headerAt}
 use Rattle.record.proofs.Laws.{whole}
 use Rattle.segments.specs.Segments.{listOf}
@@ -44,7 +41,7 @@ use Rattle.correction.proofs.Laws.{hit-row, hit-below, miss-row, start-place}
 use Rattle.celltext.specs.declared.Spot.{Spot}
 use Rattle.celltext.specs.declared.Spot.the-variants.{Text, Refused}
 use Rattle.celltext.specs.CellText.{answerTo, answerOf, bufferTo, bufferAfter}
-use Rattle.celltext.specs.Parts.{Fetches, Within, First}
+use Rattle.celltext.specs.Parts.{First}
 
 -- ---- the first of some cells
 module _ (s : List ℕ) (c : Cell) (l : List Cell) where

@@ -1,14 +1,13 @@
 -- A text result stands in whole records, one after the other, that hold no cell, open or close no substream and are no INDEX. Assumes nothing.
-use Prim.Native.Nat.{ℕ, _+_, _-_}
+use Prim.Native.Nat.{ℕ}
 use mathlib.Core.Path.{_≡_, refl, sym, ap, _∙_, subst}
 use mathlib.Core.List.{List}
-use mathlib.Core.Bool.{Bool, true, false}
+use mathlib.Core.Bool.{Bool, true}
 use native.Mathlib.Omega.{arith}
 use lib.Dec.{eqb}
 use borrow.Author.Tests.{eqb-true}
 use Rattle.walk.specs.Choice.{pick}
 use Rattle.walk.proofs.Choice.{pick-by}
-use Rattle.le.specs.Bytes.{byteAt, u16At}
 use Rattle.record.specs.declared.Header.{Header}
 use Rattle.record.specs.declared.Header.the-variants.{Record, Cut, End}
 use Rattle.record.specs.Record.{headerAt}
@@ -16,9 +15,9 @@ use Rattle.record.proofs.Laws.{whole}
 use Rattle.cell.specs.declared.Shape.the-variants.{OTHER}
 use Rattle.cell.specs.Cells.{shapeOf}
 use Rattle.segments.specs.declared.Cursor.{Cursor}
-use Rattle.segments.specs.Segments.{Got, got, refused, then, on as onward, filled, need, widthOf, items}
+use Rattle.segments.specs.Segments.{Got, got, on as onward, filled, need, items}
 use Rattle.textresult.specs.TextResult.{between, pastOne, stringPlace, startSize, stringAt, body, textAt, textOf}
-use Rattle.textresult.proofs.Local.{Text, text-at}
+use Rattle.textresult.proofs.Local.{text-at}
 use Rattle.chain.specs.Chain.{Chain, here, on, Plain, Reach}
 use Rattle.chain.proofs.Chain.{chain-trans, chain-by}
 use Rattle.chain.proofs.Table.{Runs, runs-on, runs-then, runs-filled, runs-need, runs-items}

@@ -15,8 +15,8 @@ use Rattle.le.specs.Bytes.{numAt}
 use Rattle.segments.specs.declared.Cursor.{Cursor}
 use Rattle.segments.specs.declared.Room.{Room}
 use Rattle.segments.specs.Segments.{Got, got, refused, listOf, on, room, items}
-use Rattle.segments.specs.Parts.{Inside, Passes, Fits, nums, roomed}
-use Rattle.segments.proofs.Laws.{append, items-fit, items-room, items-refused, list-append, passes-append, nums-length, Count, count-items, copy-within, copy-left}
+use Rattle.segments.specs.Parts.{Passes, Fits, nums, roomed}
+use Rattle.segments.proofs.Laws.{append, items-fit, items-room, items-refused, list-append, passes-append, nums-length, Count, count-items}
 use Rattle.segments.proofs.Local.{ItemAt, room-item}
 use Rattle.differences.specs.Differences.{same, charsFrom, charsOf}
 use Rattle.characters.specs.declared.Chars.{Chars}
@@ -271,12 +271,6 @@ module _ (s : List ℕ) (x : Chars) (p : Readable s x) (k b : ℕ) (fit : Fits (
 
 -- the two sides together: a and b are the characters where they stand, k the run
 module _ (s t : List ℕ) (x y a b : Chars) (p : Ready s x a) (q : Ready t y b) (many : x .count ≡ y .count) where
-  pub run-first : (a .place .at ≤ a .place .end) × (1 ≤ a .width) × (a .width ≤ 2)
-  run-first = (p .readable .inside .0, p .readable .some, p .readable .small)
-
-  pub run-second : (b .place .at ≤ b .place .end) × (1 ≤ b .width) × (b .width ≤ 2)
-  run-second = (q .readable .inside .0, q .readable .some, q .readable .small)
-
   module _ (k : Run) (fit : RunFits (a .place .end - a .place .at) (a .width) (b .place .end - b .place .at) (b .width) (a .count) k) where
     there : Fits (b .place .end - b .place .at) (b .width) (b .count) (k .count) (k .second)
     there = subst (λ (n : ℕ). Fits (b .place .end - b .place .at) (b .width) n (k .count) (k .second)) (p .count ∙ many ∙ sym (q .count)) (fit .there-fits)

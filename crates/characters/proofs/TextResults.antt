@@ -1,12 +1,10 @@
 -- The laws of text results compared, with what a call gave as the proofs have it. Assumes nothing.
-use Prim.Native.Nat.{ℕ, zero, suc, _+_, _-_, _≤_, _<_}
+use Prim.Native.Nat.{ℕ, _+_, _-_, _≤_}
 use mathlib.Core.Path.{_≡_, refl, sym, ap, _∙_, subst, subst⁻¹}
 use mathlib.Core.Bool.{Bool, true, false}
-use mathlib.Core.List.{List, [], _∷_}
+use mathlib.Core.List.{List, []}
 use native.Mathlib.Omega.{arith}
-use lib.ListN.{length}
-use Rattle.walk.specs.Choice.{pick}
-use Rattle.walk.proofs.Choice.{never, refl′, pick-yes, pick-no}
+use Rattle.walk.proofs.Choice.{pick-yes, pick-no}
 use Rattle.le.specs.Bytes.{byteAt, u16At}
 use Rattle.record.specs.declared.Header.{Header}
 use Rattle.record.specs.declared.Header.the-variants.{Record, Cut, End}
@@ -15,12 +13,12 @@ use Rattle.segments.specs.declared.Cursor.{Cursor}
 use Rattle.segments.specs.declared.Moved.{Moved}
 use Rattle.segments.specs.Segments.{Got, listOf, on, widthOf, items}
 use Rattle.segments.specs.Parts.{Inside, ends, moved, Passes}
-use Rattle.textresult.specs.TextResult.{isString, stringPlace, stringAt, onString, textAt, textOf}
-use Rattle.textresult.proofs.Fetch.{Chars as Read, chars, refused-is, at-none, at-string}
+use Rattle.textresult.specs.TextResult.{isString, stringPlace, stringAt, textAt, textOf}
+use Rattle.textresult.proofs.Fetch.{chars, refused-is, at-none, at-string}
 use Rattle.value.specs.declared.CellValue.{CellValue}
 use Rattle.reading.specs.Reading.{saysText, onFormula, textAfter}
 use Rattle.characters.specs.declared.Chars.{Chars}
-use Rattle.characters.specs.Characters.{Readable, unitsIn}
+use Rattle.characters.specs.Characters.{unitsIn}
 use Rattle.differences.specs.Differences.{same}
 use Rattle.differences.specs.Units.{unitsBy}
 use Rattle.characters.specs.Characters.{ReadAs, noChars}
@@ -96,6 +94,3 @@ pub ruleset cell-laws = (silent-reads, text-reads)
 
 pub read-same : (s t : List ℕ) (x y : Chars) (us vs : List ℕ) (b : Bool) → ReadAs s x us → ReadAs t y vs → b ≡ same (unitsIn s x) (unitsIn t y) → b ≡ same us vs
 read-same s t x y us vs b p q h = h ∙ (let i = p .units in let j = q .units in λ k. same (i k) (j k))
-
-pub header-low : (f : ℕ) → f < 10 → 0 ≡ f - 10
-header-low f h = omega arith

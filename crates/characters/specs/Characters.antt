@@ -3,7 +3,6 @@ use Prim.Native.Nat.{ℕ, _-_, _≤_}
 use mathlib.Core.Path.{_≡_}
 use mathlib.Core.Bool.{true}
 use mathlib.Core.List.{List}
-use Rattle.segments.specs.declared.Cursor.{Cursor}
 use Rattle.segments.specs.Segments.{listOf, on, items}
 use Rattle.segments.specs.Parts.{Inside, Passes, Fits}
 use Rattle.characters.specs.declared.Chars.{Chars}

@@ -1,13 +1,12 @@
 // Characters compared: those of two shared strings, wherever their segments part them, those of two names, and those of two text results.
 ghost use mathlib.Core.Path.{_≡_};
-ghost use mathlib.Core.List.{[]};
 ghost use Prim.Native.Nat.{_+_, _-_, _*_, _/_, _≤_};
 ghost use lib.ListN.{length};
 ghost use Rattle.segments.specs.Segments.{listOf};
-ghost use Rattle.segments.specs.Parts.{Inside, Passes, nums, Fits};
+ghost use Rattle.segments.specs.Parts.{Inside, Passes, nums};
 ghost use Rattle.textresult.specs.TextResult.{isText, stringAt, textAt};
 ghost use Rattle.reading.specs.Reading.{saysText, textAfter};
-ghost use Rattle.differences.specs.Differences.{same, charsOf, charsFrom};
+ghost use Rattle.differences.specs.Differences.{same, charsOf};
 ghost use Rattle.differences.specs.Units.{unitsBy};
 ghost use Rattle.characters.specs.Characters.{Readable, unitsIn, Ready, pastBy, RunFits, ReadAs, noChars};
 use record::Header;

@@ -1,7 +1,7 @@
 -- The places of the strings after a granted correction. Assumes nothing.
 use Prim.Native.Nat.{ℕ, zero, suc, _+_, _≤_}
 use mathlib.Core.Path.{_≡_, refl, sym, ap, _∙_, subst, subst⁻¹}
-use mathlib.Core.List.{List, []}
+use mathlib.Core.List.{List}
 use mathlib.Core.Logic.{_⊎_, inl, inr}
 use native.Mathlib.Omega.{arith}
 use lib.ListN.{length}
@@ -19,7 +19,6 @@ use Rattle.value.specs.declared.Field.{Field}
 use Rattle.change.specs.declared.NewValue.{NewValue}
 use Rattle.change.specs.Change.{Held}
 use Rattle.globals.specs.declared.Globals.{Globals}
-use Rattle.workbook.specs.declared.Checked.{Checked}
 use Rattle.workbook.specs.declared.Checked.the-variants.{Right}
 use Rattle.workbook.specs.Check.{checkedOf, onChecked}
 use Rattle.reading.specs.Reading.{stringsAt}
@@ -34,14 +33,13 @@ use Rattle.upheld.proofs.Upheld.{upheld}
 use Rattle.reread.proofs.Fields.{inside, same-before}
 use Rattle.reread.proofs.Found.{reach-found, corrected}
 use Rattle.reread.proofs.Strings.{Table, Tabled, globals-tabled, strings-kept}
-use Rattle.places.specs.declared.Filled.{Filled}
 use Rattle.places.specs.declared.Filled.the-variants.{Strings, Refused}
 use Rattle.places.specs.Places.{placesAt, filledOf, fillOf, tableAfter, throughOf, bufferThrough}
 use Rattle.places.specs.Places as places
 use Rattle.places.proofs.Filling.{places-none, places-some}
 use Rattle.places.proofs.Claims.{given, through-filled, buffer-filled}
 use Rattle.claims.specs.Tables.{SameTable, Outlives}
-use Rattle.claims.proofs.Demand3.{Made, made, one}
+use Rattle.claims.proofs.Demand3.{made, one}
 
 -- ---- two streams of one length with the same bytes up to two past the globals
 module _ (s s′ : List ℕ) (len : length s ≡ length s′) (to : ℕ) (same : Same s s′ 0 (to + 2)) where

@@ -1,17 +1,15 @@
 -- A sheet list and BOFs that agree do so after each BOF has moved to a place of its own. Assumes nothing.
-use Prim.Native.Nat.{ℕ, zero, suc}
+use Prim.Native.Nat.{ℕ}
 use mathlib.Core.Path.{_≡_, refl, sym, ap, _∙_, subst}
 use mathlib.Core.List.{List, [], _∷_, map}
-use mathlib.Core.Bool.{Bool, true, false, not, _&&_, _||_}
+use mathlib.Core.Bool.{Bool, true, false, not, _&&_}
 use mathlib.Core.Logic.{_⊎_, inl, inr, ⊎-elim}
-use native.Mathlib.Omega.{arith}
 use lib.Dec.{eqb}
 use borrow.Author.Tests.{eqb-true, eq-eqb, not-true}
-use Rattle.walk.specs.Choice.{pick}
 use Rattle.walk.proofs.Choice.{never, pick-by, pick-true}
 use Rattle.walk.proofs.Bools.{and-left, and-right, and-both, or-cases, or-left, or-right}
 use Rattle.sheetlist.specs.declared.Agreement.{Agreement}
-use Rattle.sheetlist.specs.declared.Agreement.the-variants.{Agree, Disagree}
+use Rattle.sheetlist.specs.declared.Agreement.the-variants.{Agree}
 use Rattle.sheetlist.specs.Agreement.{Sheet, Bof, starts, named, right, judged, claimed, agreementOf}
 use Rattle.reading.specs.Claims.{Every}
 use Rattle.compact.specs.Parts.{Given, movedBof, movedSheet, BofsApart}

@@ -1,7 +1,7 @@
 -- The new stream passes the check. Assumes nothing.
-use Prim.Native.Nat.{ℕ, zero, suc, _+_, _-_, _^_, _≤_, _<_}
-use mathlib.Core.Path.{_≡_, refl, sym, ap, ap₂, _∙_, subst}
-use mathlib.Core.List.{List, [], _∷_, map}
+use Prim.Native.Nat.{ℕ, _^_, _≤_, _<_}
+use mathlib.Core.Path.{_≡_, refl, sym, ap, ap₂, _∙_}
+use mathlib.Core.List.{List, map}
 use mathlib.Core.Bool.{Bool, true, false}
 use mathlib.Core.Logic.{_⊎_, inl, inr}
 use native.Mathlib.Omega.{arith}
@@ -16,31 +16,30 @@ use Rattle.record.specs.declared.Header.{Header}
 use Rattle.record.specs.declared.Header.the-variants.{Record, Cut, End}
 use Rattle.record.specs.Record.{headerAt}
 use Rattle.record.proofs.Laws.{whole}
-use Rattle.substream.specs.Substream.{kindAt}
 use Rattle.sheetlist.specs.declared.Agreement.the-variants.{Agree}
-use Rattle.sheetlist.specs.Agreement.{Sheet, Bof, starts, agreementOf}
+use Rattle.sheetlist.specs.Agreement.{Sheet, starts, agreementOf}
 use Rattle.globals.specs.declared.Globals.{Globals}
 use Rattle.globals.specs.declared.Ended.{Ended}
-use Rattle.globals.specs.declared.Ended.the-variants.{At, Refused}
+use Rattle.globals.specs.declared.Ended.the-variants.{At}
 use Rattle.globals.specs.Globals.{recordsFrom, opened, isGlobalsBof, onFirst, globalsOf}
-use Rattle.globals.specs.Sheets.{sheetsFrom, sheetsOf}
+use Rattle.globals.specs.Sheets.{sheetsOf}
 use Rattle.globals.proofs.Table.{Stands, table-told}
-use Rattle.toplevel.specs.TopLevel.{topsFrom, bofsFrom}
+use Rattle.toplevel.specs.TopLevel.{bofsFrom}
 use Rattle.workbook.specs.declared.Checked.the-variants.{Right}
 use Rattle.workbook.specs.Check.{checkedOf}
 use Rattle.chain.specs.Tops.{Passing}
 use Rattle.chain.proofs.Chain.{every-map}
 use Rattle.chain.proofs.Sheets.{passing, passes}
 use Rattle.moved.proofs.Moved.{num-moved, header-moved}
-use Rattle.compact.specs.Entries.{Spot, Entry, spotAfter, start, entriesOf}
-use Rattle.compact.specs.Compact.{written, placeIn, textsIn, uses, usedBelow, indexIn, compactWith}
-use Rattle.compact.specs.Parts.{Given, View, movedSheet, movedBof, BofViewed, givenOf, Made}
+use Rattle.compact.specs.Entries.{Entry, start, entriesOf}
+use Rattle.compact.specs.Compact.{placeIn, textsIn, uses, indexIn, compactWith}
+use Rattle.compact.specs.Parts.{Given, View, BofViewed, givenOf, Made}
 use Rattle.compact.specs.Echo.{Echoes}
-use Rattle.compact.specs.Claims.{Standing, IsTable, usedOf, TableOf, placeOf, sheetMoved, Compacted, CompactPasses}
+use Rattle.compact.specs.Claims.{Standing, usedOf, TableOf, placeOf, sheetMoved, Compacted, CompactPasses}
 use Rattle.compact.proofs.Fates.{after-at, after-bof, after-opens}
-use Rattle.compact.proofs.Records.{spot, openedAt, bof-next, bof-same, bof-header}
+use Rattle.compact.proofs.Records.{openedAt, bof-next, bof-same, bof-header}
 use Rattle.compact.proofs.Echo.{echo-bof}
-use Rattle.compact.proofs.Globals.{Told, Tracks, Lands, globals-land}
+use Rattle.compact.proofs.Globals.{Tracks, Lands, globals-land}
 use Rattle.compact.proofs.Tops.{TopsMoved, tops-moved}
 use Rattle.compact.proofs.Agreement.{every-starts, agreement-moved, agreement-each}
 use Rattle.compact.proofs.Places.{entries-lie, place-within, used-below, index-none, index-some}

@@ -1,32 +1,31 @@
 -- The entries of the new stream, one after the other, beside those of the old one. Assumes nothing.
-use Prim.Native.Nat.{ℕ, zero, suc, _+_, _-_, _^_, _≤_, _<_}
+use Prim.Native.Nat.{ℕ, _+_, _≤_, _<_}
 use mathlib.Core.Path.{_≡_, refl, sym, ap, ap₂, _∙_, subst}
-use mathlib.Core.List.{List, [], _∷_, _++_}
+use mathlib.Core.List.{List, _∷_}
 use mathlib.Core.Bool.{Bool, true, false}
-use mathlib.Core.Logic.{_⊎_, inl, inr}
+use mathlib.Core.Logic.{inl}
 use native.Mathlib.Omega.{arith}
-use lib.ListN.{length, getD, take, drop}
-use lib.Seq.{sets, take-at}
+use lib.ListN.{length, take}
+use lib.Seq.{take-at}
 use lib.Dec.{eqb}
 use borrow.Author.Tests.{eqb-true, eqb-false}
 use Rattle.walk.specs.Choice.{pick}
 use Rattle.walk.proofs.Choice.{pick-same}
-use Rattle.le.specs.Bytes.{u32At, bytesOf}
-use Rattle.record.specs.declared.Header.{Header}
+use Rattle.le.specs.Bytes.{u32At}
 use Rattle.record.specs.declared.Header.the-variants.{Record}
 use Rattle.record.specs.Record.{headerAt}
 use Rattle.record.proofs.Laws.{whole}
 use Rattle.substream.specs.Substream.{kindAt}
-use Rattle.chain.specs.Chain.{Chain, here, on}
+use Rattle.chain.specs.Chain.{here, on}
 use Rattle.moved.proofs.Moved.{num-moved}
-use Rattle.compact.specs.Entries.{Spot, Fate, stays, goes, table, text, sheet, Entry, inGlobals, inLater, fateOf, parts, levelAfter, spotAfter, entriesFrom}
-use Rattle.compact.specs.Compact.{bytesAt, newBytes, written}
+use Rattle.compact.specs.Entries.{Spot, Fate, stays, goes, table, text, sheet, Entry, fateOf, parts, levelAfter, spotAfter, entriesFrom}
+use Rattle.compact.specs.Compact.{bytesAt, newBytes}
 use Rattle.compact.specs.Parts.{Given, View}
 use Rattle.compact.specs.Echo.{Echoes, gone, part, kept, label, bound, tabled, Matches, Echo}
-use Rattle.compact.specs.Claims.{Continued, Row, Standing, TableAt}
+use Rattle.compact.specs.Claims.{Row, Standing, TableAt}
 use Rattle.compact.proofs.Entries.{entries-record, entries-bof}
 use Rattle.compact.proofs.Written.{new-size, view-split}
-use Rattle.compact.proofs.Fates.{after-at, after-gone, after-kind, after-opens, after-plain, after-bof, after-eof, marks-stay}
+use Rattle.compact.proofs.Fates.{after-at, after-gone, after-kind, after-opens, after-plain, after-bof, marks-stay}
 use Rattle.compact.proofs.Records.{fits, later, entries-by, kept-header, text-header, bound-header, openedAt, bof-same}
 
 -- two spots alike send a record the same way

@@ -1,21 +1,19 @@
 -- The list of entries, record by record. Assumes nothing.
-use Prim.Native.Nat.{ℕ, zero, suc, _+_, _-_, _≤_, _<_}
+use Prim.Native.Nat.{ℕ, _+_, _-_}
 use mathlib.Core.Path.{_≡_, refl, sym, ap, _∙_, subst}
 use mathlib.Core.List.{List, [], _∷_}
-use mathlib.Core.Bool.{Bool, true, false}
 use native.Mathlib.Omega.{arith}
 use lib.ListN.{length}
-use lib.Dec.{leb, eqb}
-use borrow.Author.Tests.{leb-false, leb-true, eqb-true, eq-eqb, ne-eqb, lt-leb, le-leb}
-use Rattle.walk.specs.Choice.{pick}
-use Rattle.walk.proofs.Choice.{pick-any, pick-by, pick-eq, pick-ne, pick-true, pick-false}
-use Rattle.walk.specs.Items.{Item, gives, skips, ends, onto, collect}
+use lib.Dec.{leb}
+use borrow.Author.Tests.{leb-false}
+use Rattle.walk.proofs.Choice.{pick-any, pick-by, pick-eq, pick-ne}
+use Rattle.walk.specs.Items.{Item, gives, onto}
 use Rattle.walk.proofs.Items.{Nearer, collect-step}
 use Rattle.record.specs.declared.Header.{Header}
 use Rattle.record.specs.declared.Header.the-variants.{Record, Cut, End}
 use Rattle.record.specs.Record.{headerAt}
 use Rattle.record.proofs.Laws.{whole}
-use Rattle.compact.specs.Entries.{Spot, Fate, stays, Entry, fateOf, spotAfter, recordItem, restItem, onHeader, entryItem, entriesFrom}
+use Rattle.compact.specs.Entries.{Spot, Entry, fateOf, spotAfter, recordItem, restItem, onHeader, entryItem, entriesFrom}
 
 -- the first entry stands at p
 abbrev pub Begins : ℕ → List Entry → Type 0

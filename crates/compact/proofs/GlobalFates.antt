@@ -1,32 +1,29 @@
 -- What becomes of the records of the globals, and what the walk and the list of sheets make of each. Assumes nothing.
-use Prim.Native.Nat.{ℕ, zero, suc, _+_, _-_, _≤_, _<_}
+use Prim.Native.Nat.{ℕ, _+_, _≤_, _<_}
 use mathlib.Core.Path.{_≡_, refl, sym, ap, _∙_, subst}
 use mathlib.Core.List.{List, [], _∷_}
 use mathlib.Core.Bool.{Bool, true, false}
 use mathlib.Core.Logic.{_⊎_, inl, inr}
 use native.Mathlib.Omega.{arith}
-use lib.ListN.{length, getD, drop}
+use lib.ListN.{getD, drop}
 use lib.Dec.{eqb, ltb}
 use lib.Seq.{getD-drop}
-use borrow.Author.Tests.{eqb-true, eqb-false, ltb-false, le-ltb, ne-eqb}
+use borrow.Author.Tests.{eqb-true, eqb-false, ltb-false}
 use Rattle.walk.specs.Choice.{pick}
-use Rattle.walk.proofs.Choice.{never, pick-any, pick-by, pick-eq, pick-ne, pick-nlt, pick-same}
-use Rattle.le.specs.Bytes.{byteAt, u16At, u32At}
+use Rattle.walk.proofs.Choice.{never, pick-by, pick-eq, pick-ne, pick-nlt, pick-same}
+use Rattle.le.specs.Bytes.{byteAt, u32At}
 use Rattle.record.specs.declared.Header.the-variants.{Record}
 use Rattle.record.specs.Record.{headerAt}
-use Rattle.record.proofs.Laws.{whole}
-use Rattle.segments.specs.Segments.{continues}
 use Rattle.globals.specs.declared.Globals.{Globals}
 use Rattle.globals.specs.declared.Step.{Step}
 use Rattle.globals.specs.declared.Step.the-variants.{More, Close, Stop}
-use Rattle.globals.specs.declared.Bound.{Bound}
 use Rattle.globals.specs.declared.Bound.the-variants as bound
-use Rattle.globals.specs.Globals.{past, sheetFits, boundsheetFits, boundsheetRecord, sstRecord, bofRecord, eofRecord, continueRecord, recordIn}
+use Rattle.globals.specs.Globals.{past, boundsheetFits, boundsheetRecord, sstRecord, bofRecord, eofRecord, continueRecord, recordIn}
 use Rattle.globals.specs.Sheets.{typeKind, sheetAt, onBound, boundAt, sheetsFrom}
 use Rattle.globals.proofs.Sheets.{sheets-done, sheets-skip, sheets-more}
-use Rattle.chain.specs.Chain.{Chain, here, on}
+use Rattle.chain.specs.Chain.{here, on}
 use Rattle.compact.specs.Entries.{Spot, Fate, stays, goes, table, text, sheet, inGlobals, fateOf}
-use Rattle.compact.specs.Claims.{Continued, Row}
+use Rattle.compact.specs.Claims.{Row}
 
 -- ---- what becomes of it
 abbrev pub Turns : Spot → ℕ → Fate → Type 0

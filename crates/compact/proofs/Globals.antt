@@ -1,7 +1,7 @@
 -- The globals pass in the new stream, with the new string table, and declare the same sheets. Assumes nothing.
 use Prim.Native.Nat.{ℕ, zero, suc, _+_, _-_, _^_, _≤_, _<_}
 use mathlib.Core.Path.{_≡_, refl, sym, ap, ap₂, _∙_, subst}
-use mathlib.Core.List.{List, [], _∷_, _++_, map}
+use mathlib.Core.List.{List, _∷_, map}
 use mathlib.Core.Bool.{Bool, true, false}
 use mathlib.Core.Logic.{_⊎_, inl, inr}
 use native.Mathlib.Omega.{arith}
@@ -10,7 +10,7 @@ use lib.Seq.{getD-drop}
 use lib.Dec.{eqb}
 use borrow.Author.Tests.{eqb-true, eqb-false}
 use Rattle.walk.specs.Choice.{pick}
-use Rattle.walk.proofs.Choice.{never, pick-by, pick-eq, pick-true}
+use Rattle.walk.proofs.Choice.{never, pick-eq}
 use Rattle.walk.proofs.Walk.{run-more, run-stop}
 use Rattle.le.specs.Bytes.{byteAt, u32At}
 use Rattle.record.specs.declared.Header.{Header}
@@ -25,20 +25,19 @@ use Rattle.sheetlist.specs.Agreement.{Sheet}
 use Rattle.globals.specs.declared.Globals.{Globals}
 use Rattle.globals.specs.declared.Step.{Step}
 use Rattle.globals.specs.declared.Step.the-variants.{More, Close, Stop}
-use Rattle.globals.specs.declared.Ended.{Ended}
 use Rattle.globals.specs.declared.Ended.the-variants.{At, Refused}
 use Rattle.globals.specs.Globals.{past, pastTable, boundsheetFits, boundsheetRecord, onTable, sstRecord, eofRecord, continueRecord, recordIn, onHeader, stepOf, turn, recordsFrom}
 use Rattle.globals.specs.Sheets.{typeKind, sheetsFrom}
 use Rattle.globals.proofs.Laws.{go, left, falls}
 use Rattle.reading.specs.Claims.{Every}
-use Rattle.chain.specs.Chain.{Chain, here, on}
+use Rattle.chain.specs.Chain.{here, on}
 use Rattle.compact.specs.Entries.{Spot, Fate, stays, goes, table, text, sheet, fateOf, spotAfter, parts, entriesFrom}
 use Rattle.compact.specs.Parts.{Given, View, movedSheet, BoundMoved}
 use Rattle.compact.specs.Echo.{Echoes, Echo}
-use Rattle.compact.specs.Claims.{Continued, Row, Standing, TableAt, IsTable}
+use Rattle.compact.specs.Claims.{Row, Standing, TableAt, IsTable}
 use Rattle.compact.proofs.Written.{view-place}
 use Rattle.compact.proofs.Fates.{after-at, after-gone, after-kind, after-plain, after-eof}
-use Rattle.compact.proofs.Records.{spot, spot-is, gone-next, kept-next, kept-same, kept-header, bound-next, bound-same, bound-header, bound-number, table-next, table-split, continues-not}
+use Rattle.compact.proofs.Records.{spot, spot-is, gone-next, kept-next, kept-header, bound-next, bound-same, bound-header, bound-number, table-next, table-split, continues-not}
 use Rattle.compact.proofs.Echo.{continue-goes, echo-gone, echo-kept, echo-sheet, echo-table}
 use Rattle.compact.proofs.Continues.{table-row}
 use Rattle.compact.proofs.GlobalFates.{Turns, turns, sheet-step, sst-step, eof-step, extsst-step, continue-step, Both, plain-both, bof-not, skip-sheets, end-sheets, some-sheets, row-sheets, fits-moved, fits-long}

@@ -14,4 +14,3 @@ pub mod Places
 pub mod Check
 pub mod Example
 pub mod Twice
-pub mod Empty

@@ -1,22 +1,22 @@
 -- The places and indices that the new stream is made with. Assumes nothing.
 use Prim.Native.Nat.{ℕ, zero, suc, _+_, _-_, _≤_, _<_}
-use mathlib.Core.Path.{_≡_, refl, sym, ap, _∙_, subst}
+use mathlib.Core.Path.{_≡_, refl, sym, ap, _∙_}
 use mathlib.Core.List.{List, [], _∷_, _++_}
-use mathlib.Core.Bool.{Bool, true, false}
+use mathlib.Core.Bool.{true}
 use native.Mathlib.Omega.{arith}
 use lib.ListN.{length, length-append}
-use lib.Dec.{ltb, leb, eqb}
+use lib.Dec.{ltb, leb}
 use borrow.Author.Tests.{leb-false}
 use Rattle.walk.specs.Choice.{pick}
-use Rattle.walk.proofs.Choice.{pick-any, pick-by, pick-eq, pick-ne, pick-true}
-use Rattle.walk.specs.Items.{Item, gives, ends}
+use Rattle.walk.proofs.Choice.{pick-any, pick-by, pick-eq, pick-ne}
+use Rattle.walk.specs.Items.{Item}
 use Rattle.record.specs.declared.Header.{Header}
 use Rattle.record.specs.declared.Header.the-variants.{Record, Cut, End}
 use Rattle.record.specs.Record.{headerAt}
 use Rattle.record.proofs.Laws.{whole}
 use Rattle.reading.specs.Claims.{Every}
 use Rattle.chain.proofs.Chain.{Keeps, collect-every}
-use Rattle.compact.specs.Entries.{Spot, Entry, fateOf, spotAfter, recordItem, restItem, onHeader, entryItem, entriesFrom}
+use Rattle.compact.specs.Entries.{Spot, Entry, recordItem, restItem, onHeader, entryItem, entriesFrom}
 use Rattle.compact.specs.Compact.{newBytes, written, newSize, placeIn, textsIn, uses, usedBelow, indexIn}
 use Rattle.compact.proofs.Written.{new-size}
 

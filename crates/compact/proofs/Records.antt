@@ -1,9 +1,9 @@
 -- A record of the old stream, at a spot that the new stream shows at q: what stands there, and what comes after it. Assumes nothing.
-use Prim.Native.Nat.{ℕ, zero, suc, _+_, _-_, _^_, _≤_, _<_}
+use Prim.Native.Nat.{ℕ, _+_, _-_, _^_, _≤_, _<_}
 use mathlib.Core.Path.{_≡_, refl, sym, ap, _∙_, subst}
 use mathlib.Core.List.{List, _∷_, _++_}
 use mathlib.Core.Bool.{Bool, true, false}
-use mathlib.Core.Logic.{_⊎_, inl, inr}
+use mathlib.Core.Logic.{_⊎_, inl}
 use native.Mathlib.Omega.{arith}
 use lib.ListN.{length, getD, drop}
 use lib.Dec.{eqb}
@@ -17,7 +17,7 @@ use Rattle.record.specs.Record.{headerAt}
 use Rattle.record.proofs.Laws.{Whole, whole}
 use Rattle.moved.proofs.Views.{num-drop}
 use Rattle.moved.proofs.Moved.{header-moved}
-use Rattle.compact.specs.Entries.{Spot, Fate, stays, goes, table, text, sheet, Entry, fateOf, spotAfter, entriesFrom}
+use Rattle.compact.specs.Entries.{Spot, Fate, stays, goes, table, text, sheet, fateOf, spotAfter, entriesFrom}
 use Rattle.compact.specs.Compact.{written}
 use Rattle.compact.specs.Parts.{Given, View, Ahead}
 use Rattle.compact.proofs.Entries.{entries-record, entries-bof}

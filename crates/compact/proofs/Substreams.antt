@@ -1,7 +1,7 @@
 -- A substream that passes in the old stream passes in the new one, and ends where the new stream goes on with what stood after it. Assumes nothing.
 use Prim.Native.Nat.{ℕ, zero, suc, _+_, _-_, _^_, _≤_, _<_}
 use mathlib.Core.Path.{_≡_, refl, sym, ap, _∙_, subst}
-use mathlib.Core.List.{List, _∷_}
+use mathlib.Core.List.{List}
 use mathlib.Core.Bool.{Bool, true, false, _&&_}
 use mathlib.Core.Logic.{_⊎_, inl, inr}
 use native.Mathlib.Omega.{arith}
@@ -10,14 +10,14 @@ use lib.Dec.{eqb}
 use borrow.Author.Tests.{eqb-true, eqb-false, eq-eqb}
 use Rattle.walk.proofs.Bools.{and-left, and-right}
 use Rattle.walk.specs.Choice.{pick}
-use Rattle.walk.proofs.Choice.{never, pick-any, pick-by, pick-eq, pick-ne, pick-true}
+use Rattle.walk.proofs.Choice.{never, pick-any, pick-by, pick-true}
 use Rattle.walk.specs.Walk.{more, stop}
-use Rattle.le.specs.Bytes.{numAt, u32At}
-use Rattle.le.proofs.Laws.{Same, num-same}
+use Rattle.le.specs.Bytes.{u32At}
+use Rattle.le.proofs.Laws.{Same}
 use Rattle.record.specs.declared.Header.{Header}
 use Rattle.record.specs.declared.Header.the-variants.{Record, Cut, End}
 use Rattle.record.specs.Record.{headerAt}
-use Rattle.record.proofs.Laws.{Whole, whole}
+use Rattle.record.proofs.Laws.{whole}
 use Rattle.cell.specs.declared.Judged.{Judged}
 use Rattle.cell.specs.declared.Judged.the-variants as judged
 use Rattle.cell.specs.declared.Shape.the-variants.{LABELSST}
@@ -39,15 +39,14 @@ use Rattle.substream.proofs.Laws.{Inner, Onward, go, left, falls, from-more, fr
 use Rattle.moved.specs.Later.{laterHere, laterStep}
 use Rattle.moved.proofs.Views.{num-drop, record-drop}
 use Rattle.moved.proofs.Texts.{has-drop}
-use Rattle.moved.proofs.Moved.{num-moved, header-moved, record-moved, record-blind, label-moved, label-index}
-use Rattle.compact.specs.Entries.{Spot, Fate, stays, goes, table, text, sheet, Entry, fateOf, spotAfter, parts, entriesFrom}
+use Rattle.moved.proofs.Moved.{num-moved, record-moved, record-blind, label-moved, label-index}
+use Rattle.compact.specs.Entries.{Spot, Fate, stays, goes, table, text, sheet, fateOf, spotAfter, parts}
 use Rattle.compact.specs.Parts.{Given, View}
 use Rattle.compact.specs.Echo.{Echo}
-use Rattle.compact.proofs.Entries.{entries-record, entries-bof}
-use Rattle.compact.proofs.Written.{view-next, stays-same, text-same, text-number, text-used}
+use Rattle.compact.proofs.Written.{text-same, text-number, text-used}
 use Rattle.compact.proofs.Records.{spot, spot-is, fits, later, entries-by, gone-next, kept-next, kept-same, kept-header, kept-free, continues-not, text-next, text-header, openedAt, bof-next, bof-same, bof-header}
 use Rattle.compact.proofs.Echo.{echo-gone, echo-kept, echo-text, echo-bof}
-use Rattle.compact.proofs.Fates.{after-at, after-gone, after-kind, after-opens, after-plain, after-bof, after-eof, Turns, turns, marks-stay, bof-step, eof-step, continue-step, index-step, label-step, label-told, label-past, Plain, plain-step, Grouped, group-step, orphan-blind}
+use Rattle.compact.proofs.Fates.{after-at, after-gone, after-kind, after-opens, after-plain, after-bof, after-eof, Turns, turns, bof-step, eof-step, continue-step, index-step, label-step, label-told, label-past, Plain, plain-step, Grouped, group-step, orphan-blind}
 use Rattle.compact.proofs.Texts.{Followed, same-on, follow, text-moved}
 
 -- a BOF opens a substream at its place, or is refused

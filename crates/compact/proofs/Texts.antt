@@ -1,5 +1,5 @@
 -- The records of a text result stay, side by side: the new stream shows them one after the other, and what comes after them. Assumes nothing.
-use Prim.Native.Nat.{ℕ, _+_, _-_, _≤_, _<_}
+use Prim.Native.Nat.{ℕ, _+_, _-_, _≤_}
 use mathlib.Core.Path.{_≡_, refl, sym, ap, _∙_, subst}
 use mathlib.Core.List.{List}
 use mathlib.Core.Bool.{Bool, true, false}
@@ -8,15 +8,14 @@ use lib.ListN.{length, getD, drop, length-drop}
 use lib.Seq.{getD-drop}
 use lib.Dec.{ltb}
 use borrow.Author.Tests.{ltb-true, ltb-false}
-use Rattle.walk.proofs.Choice.{never}
 use Rattle.le.proofs.Laws.{Same}
 use Rattle.record.specs.declared.Header.the-variants.{Record}
 use Rattle.record.specs.Record.{headerAt}
 use Rattle.record.proofs.Laws.{whole}
 use Rattle.segments.specs.declared.Cursor.{Cursor}
-use Rattle.segments.specs.Segments.{Got, got, refused, continues}
+use Rattle.segments.specs.Segments.{got, continues}
 use Rattle.textresult.specs.TextResult.{textOf}
-use Rattle.textresult.proofs.Local.{text-ahead, text-near}
+use Rattle.textresult.proofs.Local.{text-near}
 use Rattle.chain.specs.Chain.{Chain, here, on, Plain}
 use Rattle.moved.specs.Later.{laterCursor, laterGot}
 use Rattle.moved.proofs.Texts.{continues-drop, text-drop}

@@ -4,15 +4,15 @@ use mathlib.Core.Path.{_≡_, refl, sym, ap, ap₂, _∙_, subst}
 use mathlib.Core.List.{List, [], _∷_, _++_, map, append-nil}
 use mathlib.Core.Bool.{Bool, true, false}
 use native.Mathlib.Omega.{arith}
-use lib.ListN.{length, getD, take, drop, length-drop, drop-of-length-le}
+use lib.ListN.{length, drop, length-drop, drop-of-length-le}
 use lib.Seq.{take-all}
-use lib.Dec.{leb, ltb, eqb}
-use borrow.Author.Tests.{eqb-true, eqb-false, leb-true, leb-false, ltb-true, ltb-false}
+use lib.Dec.{leb, ltb}
+use borrow.Author.Tests.{leb-true, ltb-true, ltb-false}
 use Rattle.walk.specs.Choice.{pick}
-use Rattle.walk.proofs.Choice.{never, pick-any, pick-by, pick-eq, pick-ne, pick-le, pick-nle, pick-true, pick-false}
+use Rattle.walk.proofs.Choice.{never, pick-by, pick-eq, pick-ne, pick-nle, pick-true, pick-false}
 use Rattle.walk.specs.Walk.{more, stop}
 use Rattle.walk.proofs.Walk.{run-more, run-stop}
-use Rattle.walk.specs.Items.{Item, gives, ends, onto}
+use Rattle.walk.specs.Items.{Item, ends, onto}
 use Rattle.le.specs.Bytes.{byteAt, numAt}
 use Rattle.record.specs.declared.Header.{Header}
 use Rattle.record.specs.declared.Header.the-variants.{Record, Cut, End}
@@ -34,14 +34,14 @@ use Rattle.chain.proofs.Chain.{every-map}
 use Rattle.chain.proofs.Tops.{opening}
 use Rattle.upheld.proofs.Walks.{end-is, done-zeros}
 use Rattle.upheld.proofs.Zeros.{zeros-from}
-use Rattle.moved.proofs.Moved.{num-moved, header-moved}
-use Rattle.compact.specs.Entries.{Spot, Fate, stays, Entry, spotAfter, restItem, onHeader, entryItem, entriesFrom}
-use Rattle.compact.specs.Compact.{bytesAt, newBytes, written}
+use Rattle.moved.proofs.Moved.{num-moved}
+use Rattle.compact.specs.Entries.{Spot, stays, Entry, spotAfter, restItem, onHeader, entryItem, entriesFrom}
+use Rattle.compact.specs.Compact.{bytesAt, written}
 use Rattle.compact.specs.Echo.{Echoes, none, rest, Echo}
 use Rattle.compact.specs.Parts.{Given, View, movedBof, BofsApart, BofViewed}
 use Rattle.compact.proofs.Entries.{entries-step}
 use Rattle.compact.proofs.Written.{view-place}
-use Rattle.compact.proofs.Records.{spot, bof-next, bof-same, bof-header}
+use Rattle.compact.proofs.Records.{spot, bof-same, bof-header}
 use Rattle.compact.proofs.Substreams.{Landing, substream-moves}
 
 -- ---- what stands after the last substream

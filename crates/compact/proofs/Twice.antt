@@ -1,6 +1,6 @@
 -- Doing it twice changes nothing. Assumes nothing.
-use Prim.Native.Nat.{ℕ, zero, suc, _+_, _-_, _^_, _≤_, _<_}
-use mathlib.Core.Path.{_≡_, refl, sym, ap, ap₂, _∙_, subst}
+use Prim.Native.Nat.{ℕ, zero, suc, _+_, _^_, _≤_, _<_}
+use mathlib.Core.Path.{_≡_, refl, sym, ap, ap₂, _∙_}
 use mathlib.Core.List.{List, [], _∷_, _++_, map, append-nil, append-assoc}
 use mathlib.Core.Bool.{Bool, true, false, _||_}
 use mathlib.Core.Logic.{_⊎_, inl, inr}
@@ -8,19 +8,19 @@ use native.Mathlib.Omega.{arith}
 use lib.ListN.{length, take, drop, take-append-drop, length-append, length-map}
 use lib.Seq.{sets, sets-eq, length-sets, length-take-le, take-at, drop-at, drop-drop}
 use lib.Dec.{ltb, eqb}
-use borrow.Author.Tests.{eqb-true, eqb-false, eq-eqb, ltb-true, ltb-false}
+use borrow.Author.Tests.{eqb-true, eqb-false, eq-eqb}
 use Rattle.walk.specs.Choice.{pick}
 use Rattle.walk.proofs.Choice.{pick-by, pick-lt, pick-nlt}
 use Rattle.walk.proofs.Bools.{or-cases, or-left, or-right}
 use Rattle.le.specs.Bytes.{u32At, bytesOf}
 use Rattle.le.proofs.Laws.{length-bytes}
-use Rattle.compact.specs.Entries.{Spot, Fate, stays, goes, table, text, sheet, Entry, start, entriesOf}
-use Rattle.compact.specs.Compact.{bytesAt, newBytes, written, newSize, placeIn, textsIn, uses, usedBelow, indexIn, compactWith}
+use Rattle.compact.specs.Entries.{Fate, stays, goes, table, text, sheet, Entry, entriesOf}
+use Rattle.compact.specs.Compact.{bytesAt, written, newSize, placeIn, textsIn, uses, usedBelow, indexIn, compactWith}
 use Rattle.globals.specs.declared.Globals.{Globals}
 use Rattle.workbook.specs.declared.Checked.the-variants.{Right}
 use Rattle.workbook.specs.Check.{checkedOf}
 use Rattle.compact.specs.Parts.{Given, givenOf}
-use Rattle.compact.specs.Echo.{Echoes, none, rest, gone, part, kept, label, bound, tabled, Echo}
+use Rattle.compact.specs.Echo.{Echoes, none, rest, gone, part, kept, label, bound, tabled}
 use Rattle.compact.specs.Claims.{usedOf, TableOf, CompactTwice, CountsAgain}
 use Rattle.compact.proofs.Check.{echoed}
 use Rattle.compact.proofs.Places.{index-none, index-some}

@@ -1,19 +1,18 @@
 -- From a place of the new stream to the next: which bytes stand there. Assumes nothing.
-use Prim.Native.Nat.{ℕ, zero, suc, _+_, _-_, _^_, _≤_, _<_}
-use mathlib.Core.Path.{_≡_, refl, sym, ap, _∙_, subst}
+use Prim.Native.Nat.{ℕ, _+_, _-_, _^_, _≤_, _<_}
+use mathlib.Core.Path.{_≡_, refl, sym, ap, _∙_}
 use mathlib.Core.List.{List, [], _∷_, _++_}
-use mathlib.Core.Bool.{Bool, true, false, _||_}
-use mathlib.Core.Logic.{_⊎_, inl, inr}
+use mathlib.Core.Bool.{true}
+use mathlib.Core.Logic.{_⊎_}
 use native.Mathlib.Omega.{arith}
-use lib.ListN.{length, getD, take, drop, length-append, length-drop, List·getD-append}
+use lib.ListN.{length, getD, drop, length-append, length-drop, List·getD-append}
 use lib.Seq.{sets, length-sets, length-take-le, getD-take, drop-drop, drop-at}
-use lib.Dec.{ltb, eqb}
-use borrow.Author.Tests.{eq-eqb, lt-ltb}
-use Rattle.walk.specs.Choice.{pick}
+use lib.Dec.{eqb}
+use borrow.Author.Tests.{eq-eqb}
 use Rattle.walk.proofs.Choice.{pick-lt, pick-nlt}
 use Rattle.walk.proofs.Bools.{or-left, or-right}
 use Rattle.le.specs.Bytes.{numAt, u32At, bytesOf}
-use Rattle.le.proofs.Laws.{Same, num-same, length-bytes, stored-other, num-stored}
+use Rattle.le.proofs.Laws.{Same, num-same, stored-other, num-stored}
 use Rattle.compact.specs.Entries.{Spot, Fate, stays, goes, table, text, sheet, Entry, entriesFrom}
 use Rattle.compact.specs.Compact.{bytesAt, newBytes, written, newSize, placeIn, byteIn, onText, textsIn, uses}
 use Rattle.compact.specs.Parts.{Given, View, Ahead}

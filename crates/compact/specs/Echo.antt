@@ -3,7 +3,7 @@ use Prim.Native.Nat.{ℕ, _+_, _≤_, _<_}
 use mathlib.Core.Path.{_≡_}
 use mathlib.Core.List.{List, [], _∷_, _++_}
 use mathlib.Core.Bool.{false}
-use lib.ListN.{length, take, drop}
+use lib.ListN.{length, drop}
 use lib.Seq.{sets}
 use Rattle.le.specs.Bytes.{u32At, bytesOf}
 use Rattle.compact.specs.Entries.{Spot, Entry, stays, goes, table, text, sheet, entriesFrom}

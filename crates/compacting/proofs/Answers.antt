@@ -1,30 +1,24 @@
 -- The answers, by the length of the new stream. Assumes nothing.
-use Prim.Native.Nat.{ℕ, _+_, _^_, _≤_, _<_}
-use mathlib.Core.Path.{_≡_, refl, sym, ap, ap₂, _∙_, subst}
-use mathlib.Core.List.{List, [], _++_}
+use Prim.Native.Nat.{ℕ, _≤_, _<_}
+use mathlib.Core.Path.{_≡_, refl, sym, ap, subst}
+use mathlib.Core.List.{List, _++_}
 use native.Mathlib.Omega.{arith}
 use lib.ListN.{length, drop}
-use lib.Dec.{ltb}
-use Rattle.walk.specs.Choice.{pick}
 use Rattle.walk.proofs.Choice.{pick-lt, pick-nlt}
 use Rattle.globals.specs.declared.Globals.{Globals}
-use Rattle.workbook.specs.declared.Checked.the-variants.{Right, Wrong}
-use Rattle.workbook.specs.Check.{checkedOf, onChecked}
-use Rattle.chain.proofs.Sheets.{passing}
 use Rattle.compact.specs.Entries.{entriesOf}
 use Rattle.compact.specs.Compact.{compactWith}
-use Rattle.newtable.specs.NewTable.{Bytes, newTable, compactedOf}
+use Rattle.newtable.specs.NewTable.{newTable, compactedOf}
 use Rattle.newtable.proofs.Claims.{new-table}
 use Rattle.copying.specs.Copied.{copied}
 use Rattle.spots.specs.Parts.{LengthOf}
 use Rattle.edits.specs.Edited as edit
 use Rattle.edits.specs.Edited.{edited, tableChange, Roomy}
 use Rattle.edits.proofs.Whole.{all-good, compact-length}
-use Rattle.compacting.specs.declared.Compacted.{Compacted}
 use Rattle.compacting.specs.declared.Compacted.the-variants.{Written, Refused}
 use Rattle.compacting.specs.declared.Plan.{Plan}
-use Rattle.compacting.specs.Compacted.{answerTo, bufferTo, answerOf, bufferAfter}
-use Rattle.compacting.specs.Parts.{bytesFor, Planned, tabled, Rewritten, Prepared}
+use Rattle.compacting.specs.Compacted.{answerTo, bufferTo}
+use Rattle.compacting.specs.Parts.{Planned, tabled, Rewritten, Prepared}
 use Rattle.compacting.proofs.Made.{new-made}
 
 -- ---- by the length of the new stream, n
@@ -56,9 +50,6 @@ module _ (t b : List ℕ) (n : ℕ) (is : n ≡ length t) where
 
 -- ---- by a plan
 module _ (s : List ℕ) (g : Globals) (t : Plan) (top : ℕ) (x : Prepared s g t top) where
-  abbrev T : List ℕ
-  T = newTable s g
-
   pub plan-length : (n : ℕ) → LengthOf s (t .size) n → n ≡ length (compactedOf s g)
   plan-length n h = h (newTable s g) (sym (x .size))
 

@@ -1,32 +1,25 @@
 -- The functions' laws. Assumes nothing.
-use Prim.Native.Nat.{ℕ, zero, suc, _+_, _-_, _≤_, _<_}
+use Prim.Native.Nat.{ℕ, _+_, _≤_, _<_}
 use mathlib.Core.Path.{_≡_, refl, sym, ap, _∙_, subst}
-use mathlib.Core.List.{List, [], _∷_, _++_}
+use mathlib.Core.List.{List}
 use mathlib.Core.Bool.{false}
 use native.Mathlib.Omega.{arith}
-use lib.ListN.{length, drop}
-use lib.Seq.{sets, length-sets}
-use Rattle.le.specs.Bytes.{u32At}
-use Rattle.reading.specs.Claims.{Every}
+use lib.ListN.{length}
+use lib.Seq.{length-sets}
 use Rattle.segments.specs.Parts.{stored}
 use Rattle.strings.specs.Table.{first}
-use Rattle.tabletexts.specs.Written.{tableBytes, tableSize}
+use Rattle.tabletexts.specs.Written.{tableSize}
 use Rattle.tablewriter.specs.Writing.{withTable}
 use Rattle.compact.specs.Entries as entries
-use Rattle.compact.specs.Entries.{Entry, entriesOf}
-use Rattle.compact.specs.Compact.{bytesAt, compactWith}
-use Rattle.spots.specs.declared.Spot.{Spot}
+use Rattle.compact.specs.Entries.{entriesOf}
 use Rattle.spots.specs.declared.Fate.{Fate}
 use Rattle.spots.specs.declared.Fate.the-variants.{Stays, Goes, Table, Text, Sheet}
 use Rattle.spots.specs.Parts.{fated}
-use Rattle.copying.specs.Copied.{copied, sizes}
-use Rattle.edits.specs.Edited as edit
-use Rattle.edits.specs.Edited.{edited, tableChange, sheetChange, placeFor, Good, Roomy, withSheets}
-use Rattle.edits.proofs.Editing.{Keeps, Editing, editing-start, place-same}
-use Rattle.edits.proofs.Whole.{Stage, stage-copied, stage-table, stage-none, stage-sheets, stage-done, told-below, compact-length, Ready}
+use Rattle.copying.specs.Copied.{copied}
+use Rattle.edits.specs.Edited.{edited, tableChange, sheetChange, placeFor, Roomy}
+use Rattle.edits.proofs.Editing.{Keeps, Editing, editing-start}
 use Rattle.tablechunks.specs.Chosen.{chosen}
 use Rattle.reindexing.specs.Runs.{Reindexed}
-use Rattle.reindexing.proofs.Laws.{textTo, reindexed-stage}
 use Rattle.compacting.specs.declared.Plan.{Plan}
 use Rattle.compacting.specs.Parts.{bytesFor, Planned, tabled, Rewritten}
 

@@ -1,5 +1,5 @@
 -- What is written is the new stream, and the bytes past it stay. Assumes nothing.
-use Prim.Native.Nat.{ℕ, zero, suc, _+_, _-_, _^_, _≤_, _<_}
+use Prim.Native.Nat.{ℕ, _+_, _≤_, _<_}
 use mathlib.Core.Path.{_≡_, refl, sym, ap, ap₂, _∙_, subst}
 use mathlib.Core.List.{List, [], _∷_, _++_}
 use mathlib.Core.Logic.{_⊎_, inl, inr}
@@ -9,7 +9,6 @@ use lib.Seq.{sets}
 use Rattle.walk.proofs.Choice.{pick-ne}
 use Rattle.le.specs.Bytes.{u16At, u32At, bytesOf}
 use Rattle.reading.specs.Claims.{Every}
-use Rattle.segments.specs.declared.Cursor.{Cursor}
 use Rattle.segments.specs.Segments.{got}
 use Rattle.segments.specs.Parts.{Inside, Passes}
 use Rattle.strings.specs.Table.{strings, first, tableOf, placesOf}
@@ -21,15 +20,15 @@ use Rattle.workbook.specs.declared.Checked.the-variants.{Right}
 use Rattle.workbook.specs.Check.{checkedOf}
 use Rattle.chain.proofs.Chain.{every-map}
 use Rattle.chain.proofs.Sheets.{passing}
-use Rattle.tabletexts.specs.Texts.{Text, kept}
+use Rattle.tabletexts.specs.Texts.{kept}
 use Rattle.tabletexts.specs.Written.{tableBytes, tableSize}
 use Rattle.tabletexts.proofs.Size.{table-size}
 use Rattle.tableclaims.proofs.Claims.{accepted-passes, accepted-texts}
 use Rattle.compact.specs.Entries as entries
 use Rattle.compact.specs.Entries.{Entry, entriesOf}
 use Rattle.compact.specs.Compact.{bytesAt, placeIn, textsIn, usedBelow, compactWith}
-use Rattle.newtable.specs.NewTable.{Bytes, marksFrom, newTexts, newTable, compactedOf}
-use Rattle.newtable.proofs.Claims.{new-count, new-table}
+use Rattle.newtable.specs.NewTable.{Bytes, marksFrom, newTexts, newTable}
+use Rattle.newtable.proofs.Claims.{new-count}
 use Rattle.tablewriter.specs.Writing.{textsFrom}
 use Rattle.copying.specs.Copied.{sizeFor, copied, sizes}
 use Rattle.edits.specs.Edited as edit
@@ -37,10 +36,9 @@ use Rattle.edits.specs.Edited.{edited, tableChange, sheetChange, placeFor, with
 use Rattle.edits.proofs.Editing.{place-same}
 use Rattle.edits.proofs.Whole.{Stage, stage-copied, stage-table, stage-none, stage-sheets, stage-done, told-below, told-stays, compact-length, Ready}
 use Rattle.tablechunks.specs.Chosen.{chosen}
-use Rattle.reindexing.specs.Runs.{Reindexed}
 use Rattle.reindexing.proofs.Laws.{textTo, reindexed-stage}
 use Rattle.compacting.specs.declared.Plan.{Plan}
-use Rattle.compacting.specs.Parts.{bytesFor, tabled, Rewritten}
+use Rattle.compacting.specs.Parts.{bytesFor, Rewritten}
 
 -- ---- positions told by the table's size
 sheets-same : (s : List ℕ) (f f′ : ℕ → ℕ) (n : ℕ) → ((p : ℕ) → f p ≡ f′ p) → (l : List Entry) (o : List ℕ) (q : ℕ) → edited (sheetChange s f) n l o q ≡ edited (sheetChange s f′) n l o q

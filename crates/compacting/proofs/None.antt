@@ -1,17 +1,15 @@
 -- A stream without a string table. Assumes nothing.
-use Prim.Native.Nat.{ℕ, _+_, _^_, _≤_, _<_}
+use Prim.Native.Nat.{ℕ, _≤_}
 use mathlib.Core.Path.{_≡_, refl, sym, ap, _∙_, subst}
 use mathlib.Core.List.{List, [], _++_}
 use native.Mathlib.Omega.{arith}
 use lib.ListN.{length, drop}
 use Rattle.walk.proofs.Choice.{pick-eq}
 use Rattle.globals.specs.declared.Globals.{Globals}
-use Rattle.workbook.specs.declared.Checked.the-variants.{Right}
-use Rattle.workbook.specs.Check.{checkedOf}
 use Rattle.chain.proofs.Sheets.{passing}
 use Rattle.compact.specs.Entries.{entriesOf}
 use Rattle.compact.specs.Compact.{compactWith}
-use Rattle.newtable.specs.NewTable.{Bytes, newTable, compactedOf}
+use Rattle.newtable.specs.NewTable.{newTable, compactedOf}
 use Rattle.newtable.proofs.Claims.{new-table}
 use Rattle.copying.specs.Copied.{copied, sizes}
 use Rattle.spots.specs.Parts.{LengthOf}

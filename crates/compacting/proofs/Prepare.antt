@@ -1,14 +1,14 @@
 -- What is known of a stream with a table before anything is written. Assumes nothing.
-use Prim.Native.Nat.{ℕ, zero, suc, _+_, _-_, _^_, _≤_, _<_}
-use mathlib.Core.Path.{_≡_, refl, sym, ap, ap₂, _∙_, subst}
-use mathlib.Core.List.{List, [], _∷_, _++_}
+use Prim.Native.Nat.{ℕ, _+_, _^_, _≤_, _<_}
+use mathlib.Core.Path.{_≡_, refl, sym, ap, _∙_, subst}
+use mathlib.Core.List.{List, [], _∷_}
 use mathlib.Core.Bool.{Bool, true, false}
 use native.Mathlib.Omega.{arith}
 use lib.ListN.{length, drop, length-append, length-drop}
 use lib.Dec.{leb, ltb}
 use borrow.Author.Tests.{leb-true, leb-false}
 use Rattle.walk.specs.Choice.{pick}
-use Rattle.walk.proofs.Choice.{pick-by, pick-any}
+use Rattle.walk.proofs.Choice.{pick-any}
 use Rattle.le.specs.Bytes.{u16At, u32At}
 use Rattle.segments.specs.Parts.{Inside, Passes}
 use Rattle.strings.specs.Table.{strings, first}
@@ -22,7 +22,7 @@ use Rattle.tabletexts.proofs.Held.{num-below}
 use Rattle.tablesize.specs.Sizing.{Counted}
 use Rattle.compact.specs.Entries as entries
 use Rattle.compact.specs.Entries.{Entry, entriesOf}
-use Rattle.compact.specs.Compact.{onText, textsIn, usedBelow, compactWith}
+use Rattle.compact.specs.Compact.{onText, textsIn, usedBelow}
 use Rattle.compact.specs.Claims.{Standing, placeOf}
 use Rattle.compact.proofs.Check.{compacted}
 use Rattle.newtable.specs.NewTable.{Bytes, newTable, compactedOf, compactOf}
@@ -34,7 +34,7 @@ use Rattle.compacting.specs.declared.Plan.{Plan}
 use Rattle.compacting.specs.declared.Compacted.{Compacted}
 use Rattle.compacting.specs.declared.Compacted.the-variants.{Refused}
 use Rattle.compacting.specs.Compacted.{answerTo, bufferTo, answerOf, bufferAfter}
-use Rattle.compacting.specs.Parts.{Planned, Tabled, Prepared}
+use Rattle.compacting.specs.Parts.{Tabled, Prepared}
 use Rattle.newtable.proofs.Marks.{texts-few}
 use Rattle.marking.proofs.Marks.{used-low}
 use Rattle.compacting.proofs.Answers.{answer-large, buffer-large}

@@ -6,7 +6,6 @@ ghost use Rattle.le.specs.Bytes.{u16At};
 ghost use Rattle.spots.specs.Parts.{fated};
 ghost use Rattle.compact.specs.Entries.{entriesOf};
 ghost use Rattle.newtable.specs.NewTable.{compactedOf};
-ghost use Rattle.copying.specs.Copied.{copied, sizes};
 ghost use Rattle.edits.specs.Edited.{edited, tableChange, Roomy};
 ghost use Rattle.compacting.specs.Compacted.{answerTo, bufferTo, answerOf, bufferAfter};
 ghost use Rattle.compacting.specs.Parts.{bytesFor, Planned, tabled, Rewritten, Passed, Tabled, Untabled, Prepared};

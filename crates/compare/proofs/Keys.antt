@@ -1,16 +1,15 @@
 -- The words of a sheet number, and of those after it. Assumes nothing.
-use Prim.Native.Nat.{ℕ, zero, suc, _+_, _-_, _*_, max, _≤_, _<_}
-use mathlib.Core.Path.{_≡_, refl, sym, ap, _∙_, subst}
+use Prim.Native.Nat.{ℕ, suc, _+_, _-_, _*_, max, _≤_, _<_}
+use mathlib.Core.Path.{_≡_, refl, sym, ap, _∙_}
 use mathlib.Core.Bool.{Bool, true, false}
-use mathlib.Core.List.{List, [], _∷_, _++_, append-assoc}
+use mathlib.Core.List.{List, [], _++_, append-assoc}
 use native.Mathlib.Omega.{arith}
 use lib.ListN.{length}
 use lib.Dec.{ltb, leb}
 use borrow.Author.Tests.{ltb-true, ltb-false, leb-true, leb-false}
 use Rattle.walk.specs.Choice.{pick}
-use Rattle.walk.proofs.Choice.{pick-le, pick-nle, pick-lt, pick-nlt}
 use Rattle.reading.specs.Reading.{Reading}
-use Rattle.differences.specs.Differences.{Difference, none, nameDifference, cellDifference, sheetKeys, addresses, differenceIn, differenceAt, wordsOf, wordsFrom, keysOf, differences}
+use Rattle.differences.specs.Differences.{Difference, nameDifference, cellDifference, sheetKeys, addresses, differenceAt, wordsOf, wordsFrom, keysOf, differences}
 use Rattle.differences.proofs.Laws.{words-split, words-none, words-agree, at-key, in-name, in-gap, in-cell}
 
 module _ (x y : Reading) (from : ℕ) where

@@ -4,25 +4,19 @@ use mathlib.Core.Path.{_≡_, refl, sym, ap, _∙_, subst, subst⁻¹}
 use mathlib.Core.Bool.{Bool, true, false, _||_}
 use mathlib.Core.List.{List, [], _∷_, _++_, map}
 use native.Mathlib.Omega.{arith}
-use native.Mathlib.Numerals.{add-one}
-use lib.ListN.{length, take, drop, length-drop, length-map}
-use lib.Seq.{drop-drop, drop-nil}
+use lib.ListN.{length, drop, length-drop, length-map}
+use lib.Seq.{drop-drop}
 use lib.Dec.{ltb, leb, eqb}
 use Rattle.walk.specs.Choice.{pick}
-use Rattle.walk.proofs.Choice.{pick-true, pick-false, pick-yes, pick-no, pick-le, pick-nle, pick-lt, pick-nlt, pick-any, pick-ne, never}
-use Rattle.walk.specs.Items.{nth, onto, Item}
+use Rattle.walk.proofs.Choice.{pick-true, pick-false, pick-yes, pick-no, pick-le, pick-nle, pick-lt, pick-nlt, pick-any, never}
+use Rattle.walk.specs.Items.{nth, onto}
 use Rattle.record.specs.declared.Header.{Header}
-use Rattle.record.specs.declared.Header.the-variants.{Record, Cut, End}
+use Rattle.record.specs.declared.Header.the-variants.{End}
 use Rattle.record.specs.Record.{headerAt}
 use Rattle.record.proofs.Laws.{header-end}
-use Rattle.cell.specs.declared.Cell.{Cell}
 use Rattle.sheetlist.specs.Agreement.{Sheet}
-use Rattle.globals.specs.declared.Bound.{Bound}
 use Rattle.globals.specs.declared.Bound.the-variants as bound
 use Rattle.globals.specs.declared.Globals.{Globals}
-use Rattle.globals.specs.declared.Ended.{Ended}
-use Rattle.globals.specs.declared.Ended.the-variants as globals
-use Rattle.globals.specs.Globals.{globalsOf}
 use Rattle.globals.specs.Sheets.{boundAt, onBound, sheetsFrom, sheetsOf}
 use Rattle.globals.proofs.Sheets.{sheets-done}
 use Rattle.workbook.specs.declared.Checked.{Checked}
@@ -31,24 +25,23 @@ use Rattle.workbook.specs.Check.{checkedOf, onChecked}
 use Rattle.fetch.proofs.Laws.{checked-globals}
 use Rattle.reading.specs.declared.Place.{Place}
 use Rattle.reading.specs.Cells.{placeAt, cellItem, onHeader, listedFrom}
-use Rattle.reading.specs.Reading.{Reading, SheetReading, CellReading, nameAt, widthAt, startBy, startOf, listedOf, onGlobals, cellReading, sheetReading, stringsAt, readingOf}
+use Rattle.reading.specs.Reading.{SheetReading, nameAt, startBy, listedOf, onGlobals, cellReading, sheetReading, stringsAt, readingOf}
 use Rattle.reading.proofs.Laws.{listed-step}
 use Rattle.listing.specs.declared.NextSheet.{NextSheet}
 use Rattle.listing.specs.declared.NextSheet.the-variants as nextSheet
 use Rattle.listing.specs.Listing.{nextSheetOf}
 use Rattle.listing.proofs.SheetWalk.{FirstSheet, SheetsFrom, sheets-next}
-use Rattle.differences.specs.Differences.{Held, heldAt, same, charsOf, Difference, none, name, between, cellsIn, cellDifference, namesBetween, nameDifference, sheetKeys, addresses, wordsOf, wordsFrom, twice, twiceIn, keysOf, differences}
-use Rattle.addresses.specs.Addresses.{valueIn, twiceAmong, AscendFrom, Ascends, When}
+use Rattle.differences.specs.Differences.{heldAt, same, charsOf, Difference, none, name, between, cellsIn, cellDifference, namesBetween, nameDifference, sheetKeys, addresses, wordsOf, wordsFrom, twiceIn, differences}
+use Rattle.addresses.specs.Addresses.{twiceAmong, AscendFrom, Ascends, When}
 use Rattle.addresses.proofs.Laws.{held-is, twice-is, ascend-once, when-asked}
 use Rattle.merge.specs.Merge.{puts, putTo, differs, wordsBetween, cellWords}
 use Rattle.merge.proofs.Puts.{puts-part, to-part, length-puts, puts-full, to-stays, puts-append, to-append, puts-start, start-count, start-all, start-full, start-more}
 use Rattle.compare.specs.declared.SheetFound.{SheetFound}
 use Rattle.compare.specs.declared.Side.{Side}
 use Rattle.compare.specs.declared.Side.the-variants as side
-use Rattle.compare.specs.declared.Compared.{Compared}
 use Rattle.compare.specs.declared.Compared.the-variants as compared
 use Rattle.compare.specs.Comparison.{Comparison, refuses, lists, comparisonOf, answerOf, bufferAfter}
-use Rattle.compare.specs.Parts.{Narrow, AllAscend, BothAscend, bookOf, firstly, Named, There, Seen, sameNames, nameSeen, cellsSeen, sheetSeen}
+use Rattle.compare.specs.Parts.{AllAscend, BothAscend, bookOf, firstly, There, Seen, sameNames, nameSeen, cellsSeen, sheetSeen}
 use Rattle.compare.proofs.Keys.{onFrom, on-start, on-end, on-sheet}
 
 -- ---- past the end there is no cell and no sheet

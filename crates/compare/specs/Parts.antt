@@ -6,11 +6,10 @@ use mathlib.Core.List.{List, [], _∷_, _++_, map}
 use lib.ListN.{length, drop}
 use lib.Dec.{ltb, leb}
 use Rattle.walk.specs.Choice.{pick}
-use Rattle.cell.specs.declared.Cell.{Cell}
 use Rattle.sheetlist.specs.Agreement.{Sheet}
 use Rattle.globals.specs.Sheets.{sheetsFrom, sheetsOf}
 use Rattle.reading.specs.Cells.{placeAt, listedFrom}
-use Rattle.reading.specs.Reading.{Reading, SheetReading, nameAt, widthAt, listedOf, sheetReading, stringsAt}
+use Rattle.reading.specs.Reading.{Reading, nameAt, widthAt, listedOf, sheetReading, stringsAt}
 use Rattle.differences.specs.Differences.{Difference, none, name, same, charsOf, wordsOf}
 use Rattle.addresses.specs.Addresses.{AscendFrom}
 use Rattle.merge.specs.Merge.{cellWords}

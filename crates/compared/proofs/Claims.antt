@@ -1,5 +1,5 @@
 -- What holds of every comparison of two streams. Assumes nothing.
-use Prim.Native.Nat.{ℕ, zero, suc, _+_, _-_, _*_, _/_, _≤_, _<_}
+use Prim.Native.Nat.{ℕ, zero, suc, _+_, _-_, _*_, _/_}
 use mathlib.Core.Path.{_≡_, refl, sym, ap, ap₂, _∙_, subst}
 use mathlib.Core.Bool.{Bool, true, false}
 use mathlib.Core.List.{List, [], _∷_, _++_}
@@ -10,10 +10,9 @@ use Rattle.globals.specs.declared.Globals.{Globals}
 use Rattle.workbook.specs.declared.Checked.{Checked}
 use Rattle.workbook.specs.declared.Checked.the-variants.{Right, Wrong}
 use Rattle.workbook.specs.Check.{checkedOf, onChecked}
-use Rattle.reading.specs.Reading.{Reading, readingOf}
+use Rattle.reading.specs.Reading.{readingOf}
 use Rattle.differences.specs.Differences.{Difference, none, name, onlyFirst, onlySecond, unequal, differenceAt, wordsOf, wordsFrom, keysOf, twiceIn, differences}
 use Rattle.differences.specs.Claims.{AscendFrom}
-use Rattle.differences.proofs.Laws.{words-none, at-past}
 use Rattle.differences.proofs.Claims.{ascending, same-nothing}
 use Rattle.compare.specs.declared.Side.the-variants as side
 use Rattle.compare.specs.Comparison.{Comparison, refuses, lists, comparisonOf}

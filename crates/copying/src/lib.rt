@@ -4,7 +4,7 @@ ghost use Prim.Native.Nat.{_+_, _≤_};
 ghost use lib.ListN.{length};
 ghost use lib.Seq.{sets};
 ghost use Rattle.spots.specs.Parts.{fated};
-ghost use Rattle.compact.specs.Entries.{start, entriesOf};
+ghost use Rattle.compact.specs.Entries.{entriesOf};
 ghost use Rattle.compact.specs.Compact.{bytesAt};
 ghost use Rattle.copying.specs.Copied.{copiedEntry, sizeFor, sizes, copied};
 use spots::Fate;

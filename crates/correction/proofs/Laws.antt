@@ -12,9 +12,7 @@ use borrow.Author.Tests.{eq-eqb, ne-eqb, eqb-true, eqb-false, leb-true, leb-fals
 use Rattle.walk.specs.Choice.{pick}
 use Rattle.walk.proofs.Choice.{pick-any, pick-by, pick-true, pick-false, pick-eq, pick-ne, pick-le, pick-nle, pick-lt, pick-nlt}
 use Rattle.walk.specs.Items.{nth}
-use Rattle.record.specs.declared.Header.the-variants.{Record}
-use Rattle.record.specs.Record.{headerAt}
-use Rattle.record.proofs.Laws.{Whole, whole}
+use Rattle.record.proofs.Laws.{whole}
 use Rattle.value.specs.declared.Field.{Field}
 use Rattle.value.specs.declared.Field.the-variants.{NoField, Float, RkWord, TextIndex, TruthError, StoredResult}
 use Rattle.value.specs.Value.{widthOf}
@@ -38,7 +36,7 @@ use Rattle.workbook.specs.declared.Checked.the-variants.{Right, Wrong}
 use Rattle.workbook.specs.Check.{checkedOf, onChecked}
 use Rattle.reading.specs.declared.Place.{Place}
 use Rattle.reading.specs.Cells.{placeAt, listedFrom}
-use Rattle.reading.specs.Reading.{startBy, startOf as sheetStart, listedOf}
+use Rattle.reading.specs.Reading.{startBy, listedOf}
 use Rattle.reading.specs.declared.Outside.{Outside}
 use Rattle.reading.specs.declared.Outside.the-variants as outside
 use Rattle.scan.specs.declared.Scanned.{Scanned}

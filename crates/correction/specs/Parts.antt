@@ -6,7 +6,6 @@ use Rattle.walk.specs.Choice.{pick}
 use mathlib.Core.List.{List, [], _∷_}
 use Rattle.walk.specs.Items.{nth}
 use Rattle.value.specs.Value.{widthOf}
-use Rattle.value.specs.declared.Field.{Field}
 use Rattle.cell.specs.declared.Cell.{Cell}
 use Rattle.cell.specs.Cells.{shapeOf, fieldOf, partOf, startOf}
 use Rattle.sheetlist.specs.Agreement.{Sheet}

@@ -5,19 +5,16 @@ use mathlib.Core.Logic.{_⊎_, inl, inr}
 use mathlib.Core.Bool.{Bool, true, false}
 use mathlib.Core.List.{List, [], _∷_, _++_}
 use native.Mathlib.Omega.{arith}
-use lib.ListN.{length}
 use lib.Dec.{ltb, eqb}
 use borrow.Author.Tests.{ltb-true, ltb-false, eqb-true, eqb-false}
-use Rattle.walk.specs.Choice.{pick}
-use Rattle.walk.proofs.Choice.{pick-true, pick-ne, pick-any, never}
+use Rattle.walk.proofs.Choice.{pick-true, pick-ne, pick-any}
 use Rattle.walk.specs.Items.{nth}
-use Rattle.value.specs.declared.FormulaResult.{FormulaResult}
 use Rattle.value.specs.declared.FormulaResult.the-variants as result
 use Rattle.value.specs.declared.CellValue.{CellValue}
 use Rattle.value.specs.declared.CellValue.the-variants as value
-use Rattle.reading.specs.Reading.{CellReading, SheetReading, Reading}
-use Rattle.differences.specs.Differences.{same, shown, resultShown, alike, addressOf, Held, nothing, holds, heldAt, Difference, none, name, onlyFirst, onlySecond, unequal, between, cellsIn, cellDifference, charsOf, namesBetween, nameDifference, sheetKeys, addresses, nameKey, cellKey, differenceIn, differenceAt, wordsOf, wordsFrom, keysOf, differences}
-use Rattle.differences.specs.Claims.{Among, AscendFrom, Ascending, Told, NothingElse, AllTold, Exactly, CellsListed, NamesListed, SameNothing, SameShown, Plain, FormulasApart, AddressesApart}
+use Rattle.reading.specs.Reading.{SheetReading, Reading}
+use Rattle.differences.specs.Differences.{same, shown, alike, Held, nothing, holds, heldAt, Difference, none, name, onlyFirst, onlySecond, unequal, between, cellsIn, cellDifference, charsOf, namesBetween, nameDifference, sheetKeys, addresses, nameKey, cellKey, differenceIn, differenceAt, wordsOf, wordsFrom, keysOf, differences}
+use Rattle.differences.specs.Claims.{Among, AscendFrom, Ascending, NothingElse, AllTold, Exactly, CellsListed, NamesListed, SameNothing, SameShown, Plain, FormulasApart, AddressesApart}
 use Rattle.differences.proofs.Laws.{words-none, at-name, at-cell, at-past, same-refl, same-eq}
 
 -- ---- among

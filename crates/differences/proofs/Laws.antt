@@ -1,18 +1,17 @@
 -- The laws of the list of differences, for those who make it. Assumes nothing.
-use Prim.Native.Nat.{ℕ, zero, suc, _+_, _-_, _*_, _/_, _%_, max, _≤_, _<_}
-use mathlib.Core.Path.{_≡_, refl, sym, ap, _∙_, subst}
+use Prim.Native.Nat.{ℕ, zero, suc, _+_, _-_, _*_, _/_, _%_, _≤_, _<_}
+use mathlib.Core.Path.{_≡_, refl, sym, ap, _∙_}
 use mathlib.Core.Bool.{Bool, true, false}
 use mathlib.Core.List.{List, [], _∷_, _++_, append-assoc}
 use native.Mathlib.Omega.{arith}
-use native.Mathlib.Numerals.{add-one}
 use lib.ListN.{length}
-use lib.Dec.{ltb, eqb}
-use borrow.Author.Tests.{eqb-true, eq-eqb}
+use lib.Dec.{eqb}
+use borrow.Author.Tests.{eqb-true}
 use Rattle.walk.specs.Choice.{pick}
-use Rattle.walk.proofs.Choice.{pick-eq, pick-ne, pick-lt, pick-nlt, pick-true, pick-any, never}
+use Rattle.walk.proofs.Choice.{pick-eq, pick-ne, pick-lt, pick-nlt, pick-any, never}
 use Rattle.walk.specs.Items.{nth}
-use Rattle.reading.specs.Reading.{CellReading, SheetReading, Reading}
-use Rattle.differences.specs.Differences.{same, Held, nothing, holds, heldAt, Difference, none, between, cellsIn, cellDifference, namesBetween, nameDifference, sheetKeys, addresses, nameKey, cellKey, differenceIn, differenceAt, wordsOf, wordsFrom, keysOf, differences}
+use Rattle.reading.specs.Reading.{SheetReading, Reading}
+use Rattle.differences.specs.Differences.{same, heldAt, Difference, none, cellsIn, cellDifference, namesBetween, nameDifference, sheetKeys, addresses, nameKey, cellKey, differenceIn, differenceAt, wordsOf, wordsFrom, keysOf}
 
 -- ---- the words of a range of keys
 module _ (d : ℕ → Difference) where

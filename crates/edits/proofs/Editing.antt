@@ -2,12 +2,11 @@
 use Prim.Native.Nat.{ℕ, zero, suc, _+_, _-_, _*_, _≤_, _<_}
 use mathlib.Core.Path.{_≡_, refl, sym, ap, ap₂, _∙_, subst}
 use mathlib.Core.List.{List, [], _∷_}
-use mathlib.Core.Bool.{Bool, true, false}
+use mathlib.Core.Bool.{false}
 use native.Mathlib.Omega.{arith}
 use lib.ListN.{length}
 use lib.Dec.{ltb}
 use Rattle.walk.specs.Choice.{pick}
-use Rattle.walk.specs.Items.{onto}
 use Rattle.reading.specs.Claims.{Every}
 use Rattle.compact.specs.Entries as entries
 use Rattle.compact.specs.Entries.{Entry, entryItem, entriesFrom, entriesOf}

@@ -1,11 +1,11 @@
 -- A buffer by its entries: what each holds, and what a change makes of it. Assumes nothing.
-use Prim.Native.Nat.{ℕ, zero, suc, _+_, _-_, _≤_, _<_}
+use Prim.Native.Nat.{ℕ, zero, suc, _+_}
 use mathlib.Core.Path.{_≡_, refl, sym, ap, ap₂, _∙_, subst}
 use mathlib.Core.List.{List, [], _∷_, _++_, append-assoc}
 use native.Mathlib.Omega.{arith}
 use lib.ListN.{length, take, drop, length-append}
-use lib.Seq.{length-take-le, take-add}
-use Rattle.compact.specs.Entries.{Fate, Entry}
+use lib.Seq.{length-take-le}
+use Rattle.compact.specs.Entries.{Entry}
 use Rattle.reading.specs.Claims.{Every}
 use Rattle.copying.specs.Copied.{sizeFor, sizes}
 use Rattle.edits.specs.Edited.{Change, edited}

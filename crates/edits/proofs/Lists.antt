@@ -1,11 +1,11 @@
 -- Stores inside a part of a list. Assumes nothing.
-use Prim.Native.Nat.{ℕ, zero, suc, _+_, _-_, _*_, _/_, _%_, _≤_, _<_}
-use mathlib.Core.Path.{_≡_, refl, sym, ap, ap₂, _∙_, subst}
-use mathlib.Core.List.{List, [], _∷_, _++_, append-assoc}
+use Prim.Native.Nat.{ℕ, zero, suc, _+_, _*_, _/_, _%_, _≤_, _<_}
+use mathlib.Core.Path.{_≡_, refl, sym, ap, ap₂, _∙_}
+use mathlib.Core.List.{List, [], _∷_, _++_}
 use native.Mathlib.Omega.{arith}
 use native.Mathlib.Numerals.{add-one}
-use lib.ListN.{length, getD, set, take, drop, length-append, length-set}
-use lib.Seq.{sets, set-append-left, set-getD, length-sets, sets-eq, getD-take, getD-drop}
+use lib.ListN.{length, set, take, drop, length-set}
+use lib.Seq.{sets, set-append-left, set-getD, sets-eq}
 use Rattle.le.specs.Bytes.{byteAt, numAt, bytesOf}
 
 set-after : (pre y : List ℕ) (i a : ℕ) → set (pre ++ y) (length pre + i) a ≡ pre ++ set y i a

@@ -1,10 +1,10 @@
 -- The copied stream, changed entry by entry, is the new stream. Assumes nothing.
-use Prim.Native.Nat.{ℕ, zero, suc, _+_, _-_, _^_, _≤_, _<_}
+use Prim.Native.Nat.{ℕ, zero, suc, _+_, _^_, _≤_, _<_}
 use mathlib.Core.Path.{_≡_, refl, sym, ap, ap₂, _∙_, subst}
 use mathlib.Core.List.{List, [], _∷_, _++_}
 use mathlib.Core.Bool.{Bool, true, false}
 use native.Mathlib.Omega.{arith}
-use lib.ListN.{length, getD, take, drop, length-append, length-drop}
+use lib.ListN.{length, getD, take, drop, length-append}
 use lib.Seq.{sets, length-sets, length-take-le, getD-take, getD-drop}
 use lib.Dec.{ltb, leb}
 use borrow.Author.Tests.{ltb-true, ltb-false, leb-true, leb-false}
@@ -17,8 +17,8 @@ use Rattle.globals.specs.declared.Globals.{Globals}
 use Rattle.workbook.specs.declared.Checked.the-variants.{Right}
 use Rattle.workbook.specs.Check.{checkedOf}
 use Rattle.moved.proofs.Views.{num-drop}
-use Rattle.compact.specs.Entries.{Fate, stays, goes, table, text, sheet, Entry, start, entriesFrom, entriesOf}
-use Rattle.compact.specs.Compact.{bytesAt, newBytes, written, newSize, placeIn, textsIn, usedBelow, indexIn, compactWith}
+use Rattle.compact.specs.Entries.{Fate, stays, goes, table, text, sheet, Entry, start, entriesOf}
+use Rattle.compact.specs.Compact.{bytesAt, newBytes, written, newSize, placeIn, indexIn, compactWith}
 use Rattle.compact.specs.Parts.{Given, givenOf}
 use Rattle.compact.specs.Echo.{Echoes, none, rest, gone, part, kept, label, bound, tabled}
 use Rattle.compact.specs.Claims.{TableOf}
@@ -26,10 +26,10 @@ use Rattle.compact.proofs.Written.{new-size}
 use Rattle.compact.proofs.Places.{entries-lie, index-none}
 use Rattle.compact.proofs.Check.{echoed}
 use Rattle.copying.specs.Copied.{sizeFor, sizes, copiedEntry, copied}
-use Rattle.edits.specs.Edited.{Change, edited, tableChange, textChange, sheetChange, withTable, withTexts, withSheets, Good}
+use Rattle.edits.specs.Edited.{edited, tableChange, textChange, sheetChange, withTable, withTexts, withSheets, Good}
 use Rattle.edits.proofs.Lists.{sets-inside, sets-whole, put-back}
 use Rattle.edits.proofs.Held as held
-use Rattle.edits.proofs.Held.{Held, Changes, After, edited-held, Any, any-held}
+use Rattle.edits.proofs.Held.{Held, Changes, edited-held, Any, any-held}
 
 pub record Sized (x : Entry) : Type 0 where
   pub cell : x .fate ≡ text → 14 ≤ x .size
@@ -336,18 +336,3 @@ module _ (s T : List ℕ) where
 pub record Ready (s T o : List ℕ) : Type 0 where
   pub good : Every (Good s) (entriesOf s)
   pub room : length (compactWith s T) ≤ length o
-
-pub made : (s T o : List ℕ) (top : ℕ) → Ready s T o → Every (λ (x : Entry). x .fate ≡ text → u32At s (x .at + 10) < top) (entriesOf s)
-    → withSheets s T (withTexts s T 0 top (withTable s T (copied s (length T) (entriesOf s) o 0))) ≡ compactWith s T ++ drop (length (compactWith s T)) o
-made s T o top r below =
-    let n = compact-length s T in
-    let post = drop (sizes (length T) (entriesOf s)) o in
-    let o₁ = copied s (length T) (entriesOf s) o 0 in
-    let a = stage-copied s T o (r .good) (let b = r .room in omega arith) in
-    let b = stage-table s T post o₁ a in
-    let z : Stage s T (λ (y : List ℕ). y ≡ T) (textTo s T 0) (bytesAt s) post (withTable s T o₁) = stage-none s T post (withTable s T o₁) b in
-    let c = stage-texts s T post (withTable s T o₁) 0 top z in
-    let e : 0 + top ≡ top = omega arith in
-    let d = stage-sheets s T post (withTexts s T 0 top (withTable s T o₁)) (textTo s T (0 + top)) c in
-    stage-done s T (textTo s T (0 + top)) post _ d (told-below s T (0 + top) (entriesOf s) (subst (λ (k : ℕ). Every (λ (x : Entry). x .fate ≡ text → u32At s (x .at + 10) < k) (entriesOf s)) (sym e) below))
-    ∙ ap (λ (k : ℕ). compactWith s T ++ drop k o) (sym n)

@@ -2,7 +2,6 @@
 use Prim.Native.Nat.{ℕ, _+_, _≤_}
 use mathlib.Core.Path.{_≡_}
 use mathlib.Core.List.{List, [], _∷_}
-use mathlib.Core.Bool.{Bool, true, false, _&&_}
 use lib.ListN.{length}
 use lib.Seq.{sets}
 use lib.Dec.{ltb, leb}
@@ -11,7 +10,7 @@ use Rattle.le.specs.Bytes.{u32At, bytesOf}
 use Rattle.compact.specs.Entries.{Fate, stays, goes, table, text, sheet, Entry, entriesOf}
 use Rattle.compact.specs.Compact.{placeIn, indexIn}
 use Rattle.reading.specs.Claims.{Every}
-use Rattle.copying.specs.Copied.{sizeFor, sizes, copied}
+use Rattle.copying.specs.Copied.{sizeFor, sizes}
 
 -- a change for each entry: its place, size and fate, the buffer and the new place in it
 abbrev pub Change : Type 0

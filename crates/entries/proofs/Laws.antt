@@ -186,14 +186,9 @@ module _ (j : List ℕ) (room : Room j) {n c : ℕ} (is : n ≡ u32At j 0) (wide
   count-as : c ≡ countIn j
   count-as = wide ∙ is
 
-  pub log-room : 16 + c * 28 + 28 ≤ length j
-  log-room = let r = room .entry in let e = count-as in omega arith
-
   pub log-made : (e : Entry) {m : ℕ} {x z : List ℕ} → m ≡ n → x ≡ entered (16 + c * 28) e j → z ≡ sets x 0 (bytesOf 4 (m + 1)) → z ≡ logged e j
   unfolding logged
   log-made e f h k = rw (k, h, f, count-as, is) refl
-
-pub ruleset log-laws = (log-room, log-made)
 
 -- ---- a value field's number
 module _ (k : Field) (p n : ℕ) (r : p + widthOf k ≤ n) where

@@ -1,42 +1,41 @@
 -- The laws of comparing values, with what a call gave as the proofs have it. Assumes nothing.
-use Prim.Native.Nat.{ℕ, zero, suc, _+_, _*_, _/_, _^_, _≤_, _<_}
+use Prim.Native.Nat.{ℕ, _+_, _*_, _/_, _≤_, _<_}
 use mathlib.Core.Path.{_≡_, refl, sym, ap, _∙_, subst, subst⁻¹}
-use mathlib.Core.Logic.{_⊎_, inl, inr}
-use mathlib.Core.Bool.{Bool, true, false, _||_}
+use mathlib.Core.Logic.{inl, inr}
+use mathlib.Core.Bool.{Bool, true, false}
 use mathlib.Core.List.{List, [], _∷_}
 use native.Mathlib.Omega.{arith}
 use lib.ListN.{length, getD, List·getD-eq-default}
 use lib.Dec.{eqb}
 use lib.Ieee.{Float}
-use borrow.Author.Tests.{eq-eqb, ne-eqb, eqb-true, eqb-false}
+use borrow.Author.Tests.{eq-eqb, eqb-true, eqb-false}
 use Rattle.walk.specs.Choice.{pick}
-use Rattle.walk.proofs.Choice.{pick-eq, pick-ne, pick-true, pick-false, never, refl′}
-use Rattle.walk.proofs.Bools.{or-cases}
+use Rattle.walk.proofs.Choice.{pick-eq, pick-ne, pick-true, pick-false, never}
 use Rattle.le.specs.Bytes.{u16At}
 use Rattle.number.specs.Float64.{bitsOf}
 use Rattle.segments.specs.declared.Cursor.{Cursor}
-use Rattle.segments.specs.Segments.{listOf, items}
+use Rattle.segments.specs.Segments.{items}
 use Rattle.segments.specs.Parts.{Inside, Passes}
 use Rattle.strings.specs.declared.Head.{Head}
 use Rattle.strings.specs.declared.HeadRead.{HeadRead}
-use Rattle.strings.specs.Table.{head, stringAt, unitsAt, placeOf, placesOf, unitsOf, stringsOf}
+use Rattle.strings.specs.Table.{head, stringAt, unitsAt, placeOf, placesOf, unitsOf}
 use Rattle.strings.specs.Parts.{headRead}
 use Rattle.strings.proofs.Local.{strings-at, strings-length}
-use Rattle.strings.proofs.Laws.{Chars as CharsRead, chars, fetch-not, placed-passes, placed-inside, head-inside, head-some, head-small}
+use Rattle.strings.proofs.Laws.{chars, fetch-not, placed-passes, placed-inside, head-inside, head-some, head-small}
 use Rattle.value.specs.declared.FormulaResult.{FormulaResult}
 use Rattle.value.specs.declared.FormulaResult.the-variants as result
 use Rattle.value.specs.declared.CellValue.{CellValue}
 use Rattle.value.specs.declared.CellValue.the-variants as value
 use Rattle.globals.specs.declared.Globals.{Globals}
-use Rattle.globals.proofs.Table.{Stands, TableTold, table-told}
+use Rattle.globals.proofs.Table.{TableTold, table-told}
 use Rattle.workbook.specs.declared.Checked.{Checked}
-use Rattle.workbook.specs.declared.Checked.the-variants.{Right, Wrong}
+use Rattle.workbook.specs.declared.Checked.the-variants.{Right}
 use Rattle.workbook.specs.Check.{checkedOf}
 use Rattle.fetch.proofs.Laws.{checked-globals, strings-none, strings-some}
 use Rattle.reading.specs.Reading.{stringsAt}
 use Rattle.marks.specs.Marks.{Marked}
 use Rattle.characters.specs.declared.Chars.{Chars}
-use Rattle.characters.specs.Characters.{Readable, unitsIn, ReadAs}
+use Rattle.characters.specs.Characters.{ReadAs}
 use Rattle.differences.specs.Differences.{same, shown, resultShown, alike}
 use Rattle.differences.specs.Units.{unitsBy}
 use Rattle.equality.specs.declared.Said.{Said}

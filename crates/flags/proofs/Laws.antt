@@ -1,7 +1,7 @@
 -- Flags, digit by digit. Assumes nothing.
 use Prim.Native.Nat.{ℕ, zero, suc, _+_, _-_, _*_, _/_, _%_, _^_, _≤_, _<_, max}
 use mathlib.Core.Path.{_≡_, refl, sym, ap, ap₂, _∙_, subst}
-use mathlib.Core.List.{List, [], _∷_}
+use mathlib.Core.List.{List}
 use mathlib.Core.Bool.{Bool, true, false}
 use native.Mathlib.Omega.{arith}
 use native.Mathlib.Nat.{mod-lt, mod-eq-of-lt, pow-suc, div-add-mod'}
@@ -15,8 +15,8 @@ use lib.Bits.{bitAnd, bitOr, or-step, or-zero-r, and-le-l, and-mask}
 use lib.Count.{onesIn, ones, ones-step, ones-le}
 use borrow.Author.Tests.{eqb-true, eqb-false, eq-eqb, ne-eqb}
 use Rattle.walk.specs.Choice.{pick}
-use Rattle.walk.proofs.Choice.{pick-eq, pick-ne}
-use Rattle.flags.specs.Flags.{bitAt, flagAt, flagsFrom, setBelow}
+use Rattle.walk.proofs.Choice.{pick-ne}
+use Rattle.flags.specs.Flags.{bitAt, flagAt, setBelow}
 use Rattle.flags.specs.Parts.{SetOne, Ranked}
 
 two-pos : 0 < 2
@@ -166,12 +166,6 @@ set-word : (l : List ℕ) (j : ℕ) → setBelow l ((j + 1) * 64) ≡ setBelow l
 set-word l j =
     let e : (j + 1) * 64 ≡ j * 64 + 64 = omega arith in
     ap (setBelow l) e ∙ set-in l j 64 (omega arith)
-
--- ---- the list of flags
-pub flags-length : (l : List ℕ) (n i : ℕ) → length (flagsFrom l i n) ≡ n
-unfolding flagsFrom
-flags-length l zero i = refl
-flags-length l (suc n) i = ap suc (flags-length l n (i + 1))
 
 -- ---- the functions' own
 pub flag-read : (l : List ℕ) (i : ℕ) → bitAnd (getD l (i / 64) 0 / 2 ^ (i % 64)) 1 ≡ flagAt l i

@@ -1,12 +1,11 @@
 -- Tokens as the code comes to them: by a number that was read, by the tests that were made. Assumes nothing.
 use Prim.Native.Nat.{ℕ, _+_, _*_, _/_, _≤_, _<_}
 use mathlib.Core.Path.{_≡_, _∙_, sym}
-use mathlib.Core.Bool.{Bool, true, false}
+use mathlib.Core.Bool.{Bool}
 use mathlib.Core.List.{List}
 use native.Mathlib.Omega.{arith}
 use lib.Bits.{bitAnd}
 use lib.ListN.{length}
-use Rattle.walk.specs.Choice.{pick}
 use Rattle.walk.proofs.Choice.{pick-true, pick-false, pick-lt, pick-nlt, refl′, picks}
 use Rattle.le.specs.Bytes.{byteAt, u16At}
 use Rattle.functions.specs.declared.Counts.{Counts}

@@ -7,7 +7,7 @@ use native.Mathlib.Omega.{arith}
 use borrow.Author.Tests.{ltb-false, leb-false, eqb-true, eqb-false}
 use mir.Syntax.{w8, w64}
 use mir.Val.{Fits}
-use lib.Dec.{ltb, leb, eqb, lit≤}
+use lib.Dec.{eqb, lit≤}
 use lib.ListN.{length, take, drop, length-take, length-drop}
 use Rattle.walk.specs.Choice.{pick}
 use Rattle.le.specs.Bytes.{byteAt, u16At}
@@ -16,7 +16,7 @@ use Rattle.functions.specs.declared.Counts.the-variants.{Missing, Range}
 use Rattle.functions.specs.Counts.{countsOf}
 use Rattle.formula.specs.declared.Token.{Token}
 use Rattle.formula.specs.declared.Token.the-variants.{Plain, Memory, Invalid}
-use Rattle.formula.specs.Tokens.{uncut, operandOf, wholeOf, textOf, choiceOf, attributeBy, attributeOf, errorOf, truthOf, baseOf, columnClear, referenceOf, areaOf, fixedBy, fixedOf, calledOf, variableBy, variableOf, innerOf, memoryOf, classifiedOf, tokenOf}
+use Rattle.formula.specs.Tokens.{uncut, operandOf, wholeOf, textOf, choiceOf, attributeBy, attributeOf, errorOf, truthOf, baseOf, referenceOf, areaOf, fixedBy, fixedOf, calledOf, variableBy, variableOf, innerOf, memoryOf, classifiedOf, tokenOf}
 
 -- a token has a byte at least, and all are there; it gives one operand at most; a memory token has inner bytes, and lies inside less than eight others
 unfoldable pub TokenWithin : ℕ → ℕ → Token → Type 0

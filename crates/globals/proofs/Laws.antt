@@ -1,15 +1,12 @@
 -- The laws of the globals' walk, with what a call gave as the proofs have it. Assumes nothing.
-use Prim.Native.Nat.{ℕ, zero, suc, _+_, _-_, _*_, _^_, _%_, _≤_, _<_}
+use Prim.Native.Nat.{ℕ, _+_, _-_, _*_, _^_, _≤_, _<_}
 use mathlib.Core.Path.{_≡_, refl, sym, ap, _∙_, subst⁻¹}
-use mathlib.Core.List.{List, [], _∷_}
-use mathlib.Core.Bool.{Bool}
+use mathlib.Core.List.{List}
 use native.Mathlib.Omega.{arith}
 use native.Mathlib.Nat.{mul-le-mul}
 use lib.ListN.{length}
-use lib.Dec.{eqb}
-use Rattle.walk.specs.Choice.{pick}
 use Rattle.walk.proofs.Choice.{pick-any, pick-eq, pick-ne}
-use Rattle.walk.specs.Walk.{Next, more, stop, run}
+use Rattle.walk.specs.Walk.{Next, more, stop}
 use Rattle.walk.proofs.Walk.{run-more, run-stop, run-keeps}
 use Rattle.record.specs.declared.Header.{Header}
 use Rattle.record.specs.declared.Header.the-variants.{Record, Cut, End}

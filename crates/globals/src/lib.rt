@@ -2,7 +2,7 @@
 ghost use mathlib.Core.Path.{_≡_};
 ghost use Prim.Native.Nat.{_+_, _*_, _≤_};
 ghost use lib.ListN.{length};
-ghost use Rattle.globals.specs.Globals.{past, pastTable, sheetFits, boundsheetFits, boundsheetRecord, sstRecord, bofRecord, eofRecord, continueRecord, recordIn, stepOf, opened, recordsFrom, isGlobalsBof, globalsOf};
+ghost use Rattle.globals.specs.Globals.{past, pastTable, sheetFits, boundsheetFits, boundsheetRecord, sstRecord, bofRecord, eofRecord, continueRecord, recordIn, stepOf, recordsFrom, isGlobalsBof, globalsOf};
 ghost use Rattle.segments.specs.Segments.{widthOf};
 ghost use Rattle.globals.specs.Sheets.{typeKind, sheetAt, boundAt};
 use record::Header;

@@ -1,17 +1,15 @@
 -- From what was seen of all tokens to the judgement. Assumes nothing.
-use Prim.Native.Nat.{ℕ, _+_, _^_, _≤_, _<_}
+use Prim.Native.Nat.{ℕ, _+_, _^_, _<_}
 use mathlib.Core.Path.{_≡_, refl, sym, _∙_, ap}
 use mathlib.Core.Bool.{Bool, true, false}
 use mathlib.Core.List.{List, [], _∷_}
 use native.Mathlib.Omega.{arith}
 use native.Mathlib.Nat.{le-refl}
 use borrow.Author.Tests.{ltb-false}
-use mir.Syntax.{w64}
-use mir.Val.{Fits}
 use lib.Dec.{ltb, eqb}
 use lib.ListN.{length, drop}
 use Rattle.walk.specs.Choice.{pick}
-use Rattle.walk.proofs.Choice.{never, pick-lt, pick-nlt, picks, refl′}
+use Rattle.walk.proofs.Choice.{never}
 use Rattle.le.specs.Bytes.{byteAt}
 use Rattle.formula.specs.declared.Judgement.{Judgement}
 use Rattle.formula.specs.declared.Judgement.the-variants.{Accepted, Refused}

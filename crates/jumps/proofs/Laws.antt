@@ -1,5 +1,5 @@
 -- From token to token of a level, and what a token's size says of its bytes. Assumes nothing.
-use Prim.Native.Nat.{ℕ, zero, suc, _+_, _-_, _*_, _^_, _≤_, _<_}
+use Prim.Native.Nat.{ℕ, suc, _+_, _-_, _*_, _^_, _≤_, _<_}
 use mathlib.Core.Path.{_≡_, refl, sym, _∙_, ap}
 use mathlib.Core.Bool.{Bool, true, false}
 use mathlib.Core.List.{List, [], _∷_}
@@ -11,7 +11,7 @@ use lib.Dec.{ltb, eqb}
 use lib.ListN.{length, take, drop, length-drop}
 use lib.Seq.{take-all}
 use Rattle.walk.specs.Choice.{pick}
-use Rattle.walk.specs.Walk.{Next, more, stop, run}
+use Rattle.walk.specs.Walk.{more, stop}
 use Rattle.walk.proofs.Choice.{never, pick-eq, pick-ne, refl′}
 use Rattle.walk.proofs.Walk.{Falls, run-more, run-stop}
 use Rattle.le.specs.Bytes.{byteAt, u16At}

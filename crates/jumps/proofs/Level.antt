@@ -9,7 +9,7 @@ use borrow.Author.Tests.{eqb-true, eqb-false, ltb-true, ltb-false}
 use lib.Dec.{ltb, eqb}
 use lib.ListN.{length, drop, length-drop}
 use lib.Seq.{drop-drop}
-use Rattle.walk.specs.Walk.{Next, more, stop, runF, run}
+use Rattle.walk.specs.Walk.{more, stop, runF, run}
 use Rattle.walk.proofs.Choice.{never}
 use Rattle.walk.proofs.Walk.{run-more, run-stop, run-keeps}
 use Rattle.walk.specs.Choice.{pick}

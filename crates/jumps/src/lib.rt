@@ -8,7 +8,7 @@ ghost use Rattle.jumps.specs.Jumps.{tableOf, targetsBy, sizeOf, landsOn,
 use formula::Token;
 
 // The bytes of a token; 0 where there is none.
-pub fn size_of(token: Token) -> usize
+fn size_of(token: Token) -> usize
     ensures { λ r. ⌜ r ≡ sizeOf token ⌝ }
 {
     match token {

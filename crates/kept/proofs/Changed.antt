@@ -1,22 +1,22 @@
 -- What a change of bytes in one value field leaves of a record. Assumes nothing.
-use Prim.Native.Nat.{ℕ, zero, suc, _+_, _-_, _*_, _≤_, _<_}
-use mathlib.Core.Path.{_≡_, refl, sym, ap, ap₂, _∙_}
+use Prim.Native.Nat.{ℕ, zero, suc, _+_, _*_, _≤_, _<_}
+use mathlib.Core.Path.{_≡_, refl, sym, ap, _∙_}
 use mathlib.Core.List.{List}
 use mathlib.Core.Bool.{true}
 use native.Mathlib.Omega.{arith}
 use native.Mathlib.Nat.{suc-mul, mul-le-mul-right}
-use lib.ListN.{length, set, take, drop, length-drop}
+use lib.ListN.{length, take, drop, length-drop}
 use lib.Seq.{ext-getD, length-take-le, getD-take, getD-drop}
 use Rattle.le.proofs.Laws.{Same}
-use Rattle.value.specs.Value.{widthOf, valueOf, valueFits, indexFits}
+use Rattle.value.specs.Value.{widthOf, valueFits, indexFits}
 use Rattle.cell.specs.declared.Shape.{Shape}
 use Rattle.cell.specs.declared.Shape.the-variants.{BLANK, NUMBER, RK, LABELSST, BOOLERR, MULRK, MULBLANK, FORMULA, OTHER}
-use Rattle.cell.specs.Cells.{fieldOf, partOf, rowAt, firstAt, multiple, lengthAt, countOf, fieldAt, cellFrom, cellsFrom, cellsOf, cellOf, tokensOf}
+use Rattle.cell.specs.Cells.{fieldOf, partOf, firstAt, multiple, lengthAt, countOf, fieldAt, cellFrom, cellOf, tokensOf}
 use Rattle.cell.proofs.Sizes.{multiple-below, formula-below}
-use Rattle.kept.specs.Claims.{Right, placeOf, revalued}
-use Rattle.kept.proofs.Fields.{field-same, cells-change, fits-change}
+use Rattle.kept.specs.Claims.{Right, placeOf}
+use Rattle.kept.proofs.Fields.{field-same, fits-change}
 use Rattle.kept.proofs.Records.{parts-within}
-use Rattle.kept.proofs.Locality.{row-same, first-same, many-same, formula-same}
+use Rattle.kept.proofs.Locality.{first-same, many-same, formula-same}
 
 -- ---- a part of the stream
 pub bytes-same : (s s′ : List ℕ) (p n : ℕ) → p + n ≤ length s → p + n ≤ length s′ → Same s s′ p (p + n) → take n (drop p s′) ≡ take n (drop p s)
@@ -80,16 +80,6 @@ module _ (s s′ : List ℕ) (h : Shape) (at z u n k : ℕ) (r : Right s h at z 
 
   same-first : firstAt s′ at ≡ firstAt s at
   same-first = first-same s s′ at z (λ m i j. before m (omega arith) (omega arith))
-
-  -- gives that cell its new value, and leaves all else as it was
-  pub cells-changed : cellsOf s′ h at z ≡ set (cellsOf s h at z) k (revalued (cellOf s (fieldOf h) at k) (valueOf (fieldOf h) (fieldAt (fieldOf h) s′ (at + 8 + k * partOf (fieldOf h)))))
-  unfolding cellsOf cellOf
-  cells-changed =
-      let w = parts-within s h at z u n r in
-      let x : n * partOf (fieldOf h) ≡ countOf h s at z * partOf (fieldOf h) = ap (λ (m : ℕ). m * partOf (fieldOf h)) (r .count) in
-      ap (cellsFrom (fieldOf h) s′ (rowAt s′ at) (firstAt s′ at) (at + 8)) same-count
-      ∙ ap₂ (λ (a b : ℕ). cellsFrom (fieldOf h) s′ a b (at + 8) (countOf h s at z)) (row-same s s′ at z (λ m i j. before m (omega arith) (omega arith))) same-first
-      ∙ cells-change s s′ (fieldOf h) (rowAt s at) (countOf h s at z) (firstAt s at) (at + 8) k (firstAt s at + k) (at + 8 + k * partOf (fieldOf h)) counted refl refl (λ m i j. before m (omega arith) j) (λ m i j. after m i (omega arith))
 
   index-kept : indexFits (fieldOf h) (fieldAt (fieldOf h) s′ (at + 8 + k * partOf (fieldOf h))) u ≡ true → indexFits (fieldOf h) (fieldAt (fieldOf h) s′ (at + 8)) u ≡ true
   index-kept i = go k refl

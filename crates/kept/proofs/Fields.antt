@@ -5,7 +5,7 @@ use mathlib.Core.List.{List, _∷_}
 use mathlib.Core.Bool.{Bool, true, false}
 use native.Mathlib.Omega.{arith}
 use native.Mathlib.Nat.{suc-mul}
-use lib.ListN.{length, getD, set, drop}
+use lib.ListN.{length, drop}
 use Rattle.walk.specs.Choice.{pick}
 use Rattle.walk.proofs.Choice.{pick-true}
 use Rattle.le.specs.Bytes.{u16At}
@@ -50,12 +50,6 @@ module _ (f : Field) (s : List ℕ) (row : ℕ) where
   cells-drop zero column q k c p h i j = absurd (omega arith)
   cells-drop (suc n) column q zero c p h i j = ap₂ (λ (x y : ℕ). cellFrom f s row x y ∷ cellsFrom f s row (column + 1) (q + partOf f) n) (omega arith) (omega arith)
   cells-drop (suc n) column q (suc k) c p h i j = cells-drop n (column + 1) (q + partOf f) k c p (omega arith) (omega arith) (omega (arith, suc-mul k (partOf f)))
-
-  pub cells-nth : (d : Cell) (n column q k c p : ℕ) → k < n → c ≡ column + k → p ≡ q + k * partOf f → getD (cellsFrom f s row column q n) k d ≡ cellFrom f s row c p
-  unfolding cellsFrom
-  cells-nth d zero column q k c p h i j = absurd (omega arith)
-  cells-nth d (suc n) column q zero c p h i j = ap₂ (λ (x y : ℕ). cellFrom f s row x y) (omega arith) (omega arith)
-  cells-nth d (suc n) column q (suc k) c p h i j = cells-nth d n (column + 1) (q + partOf f) k c p (omega arith) (omega arith) (omega (arith, suc-mul k (partOf f)))
 
 -- ---- which bytes are read
 module _ (s s′ : List ℕ) where
@@ -110,20 +104,6 @@ module _ (s s′ : List ℕ) where
         (fits-same n (q + partOf f) (λ k i j. h k (omega arith) (omega (arith, suc-mul n (partOf f)))))
 
     -- ---- n parts that differ in the value field of the k-th alone, whose part is at p
-    pub cells-change : (row n column q k c p : ℕ) → k < n → c ≡ column + k → p ≡ q + k * partOf f → Same s s′ q (p + startOf f) → Same s s′ (p + startOf f + widthOf f) (q + n * partOf f)
-        → cellsFrom f s′ row column q n ≡ set (cellsFrom f s row column q n) k (revalued (cellFrom f s row c p) (valueOf f (fieldAt f s′ p)))
-    unfolding cellsFrom
-    cells-change row zero column q k c p l i j a b = absurd (omega arith)
-    cells-change row (suc n) column q zero c p l i j a b =
-        let pq : p ≡ q = omega arith in
-        let cc′ : c ≡ column = omega arith in
-        ap₂ (λ (x : Cell) (t : List Cell). x ∷ t)
-        (ap₂ (λ (x y : ℕ). cellFrom f s′ row x y) (sym cc′) (sym pq) ∙ cell-other row c p (λ m u v. a m (omega arith) v) (λ m u v. b m u (omega (arith, suc-mul n (partOf f)))))
-        (cells-same row n (column + 1) (q + partOf f) (λ m u v. b m (omega (arith, field-in f)) (omega (arith, suc-mul n (partOf f)))))
-    cells-change row (suc n) column q (suc k) c p l i j a b =
-        ap₂ (λ (x : Cell) (t : List Cell). x ∷ t)
-        (cell-same row column q (λ m u v. a m u (omega (arith, suc-mul k (partOf f)))))
-        (cells-change row n (column + 1) (q + partOf f) k c p (omega arith) (omega arith) (omega (arith, suc-mul k (partOf f))) (λ m u v. a m (omega arith) v) (λ m u v. b m u (omega (arith, suc-mul n (partOf f)))))
 
     pub fits-change : (n q k p : ℕ) → k < n → p ≡ q + k * partOf f → Same s s′ q (p + startOf f) → Same s s′ (p + startOf f + widthOf f) (q + n * partOf f)
         → fieldsFit f s q n ≡ true → valueFits f (fieldAt f s′ p) ≡ true → fieldsFit f s′ q n ≡ true

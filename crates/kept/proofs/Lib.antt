@@ -3,4 +3,3 @@ pub mod Records
 pub mod Locality
 pub mod Changed
 pub mod Planned
-pub mod Written

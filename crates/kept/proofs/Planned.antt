@@ -2,12 +2,12 @@
 use Prim.Native.Nat.{ℕ, _+_, _*_, _/_, _%_, _^_, _≤_, _<_}
 use mathlib.Core.Path.{_≡_, refl, sym, ap, _∙_}
 use mathlib.Core.Bool.{Bool, true, false, not}
-use mathlib.Core.Logic.{_↔_, _⊎_, inl, inr}
+use mathlib.Core.Logic.{_↔_}
 use native.Mathlib.Omega.{arith}
 use lib.Dec.{T, ltb, eqb}
 use lib.Ieee as Ieee
-use lib.Ieee.{nan, inf, fin, binary64, fits, ofBits, toBits, isNan}
-use borrow.Author.Tests.{ne-eqb, eqb-false, le-ltb, ltb-true, ltb-false}
+use lib.Ieee.{binary64, fits, ofBits}
+use borrow.Author.Tests.{eqb-false, le-ltb}
 use Rattle.walk.specs.Choice.{pick}
 use Rattle.walk.proofs.Choice.{never, pick-eq, pick-ne, pick-false}
 use Rattle.boolerr.specs.Boolerr.{isTruth, isError}
@@ -16,7 +16,7 @@ use Rattle.number.specs.Rk.{rkOf}
 use Rattle.number.specs.Packing.{Means, packOf}
 use Rattle.number.specs.declared.Packed.{Packed}
 use Rattle.number.specs.declared.Packed.the-variants.{Word, Unpacked}
-use Rattle.number.proofs.Laws.{float-of-bits, bits-of-lt, bits-of-nan, sound, refused-exactly, packed-number}
+use Rattle.number.proofs.Laws.{float-of-bits, bits-of-lt, sound, refused-exactly, packed-number}
 use Rattle.value.specs.declared.Field.{Field}
 use Rattle.value.specs.declared.Field.the-variants.{NoField, Float, RkWord, TextIndex, TruthError, StoredResult}
 use Rattle.value.specs.declared.CellValue.the-variants.{Number as CellNumber, NotNumber as CellNotNumber, Text as CellText, Truth as CellTruth, Error as CellError}
@@ -130,45 +130,3 @@ unpacked x u held =
     none : (k : Packed) → packedPlan k ≡ Refused 18 0 → k ≡ Unpacked
     none (Word w) e = refused-put 18 0 w (sym e)
     none Unpacked e = refl
-
--- an infinity and a NaN are not finite, and every other f64 is
-pub infinite : (s : Bool) → finite (bitsOf (inf s)) ≡ false
-unfolding finite bitsOf isNan toBits pick
-infinite true = refl
-infinite false = refl
-
-pub not-a-number : finite (bitsOf nan) ≡ false
-unfolding finite bitsOf isNan pick
-not-a-number = refl
-
--- the two patterns with all of bits 52 to 62 set that are no NaN's
-which : (b : ℕ) → b < 2 ^ 64 → isNanBits b ≡ false → b / 2 ^ 52 % 2 ^ 11 ≡ 2047 → (b ≡ 9218868437227405312) ⊎ (b ≡ 18442240474082181120)
-unfolding isNanBits
-which b l h e = let n = ltb-false (2047 * 2 ^ 52) (b % 2 ^ 63) h in go (ltb b 9223372036854775808) refl n
-  where
-    go : (t : Bool) → ltb b 9223372036854775808 ≡ t → b % 2 ^ 63 ≤ 2047 * 2 ^ 52 → (b ≡ 9218868437227405312) ⊎ (b ≡ 18442240474082181120)
-    go true i n = let k = ltb-true b 9223372036854775808 i in inl (omega arith)
-    go false i n = let k = ltb-false b 9223372036854775808 i in inr (omega arith)
-
-plus-infinity : ofBits binary64 9218868437227405312 ≡ inf false
-unfolding ofBits
-plus-infinity = refl
-
-minus-infinity : ofBits binary64 18442240474082181120 ≡ inf true
-unfolding ofBits
-minus-infinity = refl
-
-module _ (s : Bool) (m : ℕ) (e : _) (held : T (fits binary64 (fin s m e))) where
-  no-infinity : (t : Bool) → inf t ≡ fin s m e → ⊥
-  no-infinity t i = never (cc)
-
-  pub finite-is : finite (bitsOf (fin s m e)) ≡ true
-  unfolding finite isNan
-  finite-is = ap not (ne-eqb (bitsOf (fin s m e) / 2 ^ 52 % 2 ^ 11) 2047 (λ h. go (which (bitsOf (fin s m e)) (bits-of-lt (fin s m e) held) (bits-of-nan (fin s m e) held) h)))
-    where
-      back : (b : ℕ) (t : Bool) → bitsOf (fin s m e) ≡ b → ofBits binary64 b ≡ inf t → ⊥
-      back b t i j = no-infinity t (sym j ∙ ap (ofBits binary64) (sym i) ∙ float-of-bits (fin s m e) held)
-
-      go : (bitsOf (fin s m e) ≡ 9218868437227405312) ⊎ (bitsOf (fin s m e) ≡ 18442240474082181120) → ⊥
-      go (inl i) = back 9218868437227405312 false i plus-infinity
-      go (inr i) = back 18442240474082181120 true i minus-infinity

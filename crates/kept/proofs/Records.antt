@@ -4,14 +4,13 @@ use mathlib.Core.Path.{_≡_, refl, sym, ap, _∙_}
 use mathlib.Core.List.{List, _∷_}
 use mathlib.Core.Bool.{Bool, true, false}
 use native.Mathlib.Omega.{arith}
-use native.Mathlib.Nat.{suc-mul, mul-le-mul-right}
-use lib.ListN.{length, getD, drop}
+use lib.ListN.{length, drop}
 use lib.Dec.{ltb, eqb}
 use borrow.Author.Tests.{eqb-false, ltb-true, ltb-false}
 use Rattle.walk.specs.Choice.{pick}
 use Rattle.walk.proofs.Choice.{never, pick-ne, pick-nlt, pick-true}
 use Rattle.value.specs.declared.Field.{Field}
-use Rattle.value.specs.Value.{widthOf, indexFits}
+use Rattle.value.specs.Value.{indexFits}
 use Rattle.cell.specs.declared.Shape.{Shape}
 use Rattle.cell.specs.declared.Cell.{Cell}
 use Rattle.cell.specs.declared.Judged.the-variants.{Passed, Refused, Other}
@@ -19,7 +18,7 @@ use Rattle.cell.specs.declared.Found.the-variants.{There, Absent}
 use Rattle.cell.specs.Cells.{isCell, fieldOf, partOf, rowAt, firstAt, countOf, fieldAt, cellFrom, cellsOf, cellOf, foundOf, fieldsFit, judged, judgeOf}
 use Rattle.cell.proofs.Sizes.{Lies, count-lies}
 use Rattle.kept.specs.Claims.{Right, placeOf}
-use Rattle.kept.proofs.Fields.{field-in, cells-length, cells-drop, cells-nth}
+use Rattle.kept.proofs.Fields.{cells-length, cells-drop}
 
 -- ---- a record passes with n cells exactly where it is right
 module _ (s : List ℕ) (h : Shape) (at z u n : ℕ) where
@@ -60,34 +59,6 @@ module _ (s : List ℕ) (h : Shape) (at z u n : ℕ) where
     pub column-within : (k : ℕ) → k < n → firstAt s at + k ≤ 255
     column-within k l = lies k l .1 (r .column)
 
-    pub count-small : n ≤ 256
-    count-small = let o = r .some in let c = column-within (n - 1) (omega arith) in omega arith
-
-    part-within : (k : ℕ) → k < n → k * partOf (fieldOf h) + partOf (fieldOf h) ≤ n * partOf (fieldOf h)
-    part-within k l = rw suc-mul at (mul-le-mul-right (partOf (fieldOf h)) l)
-
-    -- a cell's value field is inside the record's body
-    pub field-within : (k : ℕ) → k < n → (at + 4 ≤ placeOf (fieldOf h) at k) × (placeOf (fieldOf h) at k + widthOf (fieldOf h) ≤ at + 4 + z)
-    field-within k l = let a = parts-within in let b = part-within k l in let c = field-in (fieldOf h) in (omega arith, omega arith)
-
-    -- the fields of two cells are apart
-    pub fields-apart : (j k : ℕ) → j < k → placeOf (fieldOf h) at j + widthOf (fieldOf h) ≤ placeOf (fieldOf h) at k
-    fields-apart j k l = let b : j * partOf (fieldOf h) + partOf (fieldOf h) ≤ k * partOf (fieldOf h) = rw suc-mul at (mul-le-mul-right (partOf (fieldOf h)) l) in omega (arith, field-in (fieldOf h))
-
-    -- ---- its list of cells
-    pub cells-are : length (cellsOf s h at z) ≡ n
-    unfolding cellsOf
-    cells-are = cells-length (fieldOf h) s (rowAt s at) (countOf h s at z) (firstAt s at) (at + 8) ∙ sym (r .count)
-
-    pub cell-is : (d : Cell) (k : ℕ) → k < n → getD (cellsOf s h at z) k d ≡ cellOf s (fieldOf h) at k
-    unfolding cellsOf cellOf
-    cell-is d k l = let e = r .count in cells-nth (fieldOf h) s (rowAt s at) d (countOf h s at z) (firstAt s at) (at + 8) k _ _ (omega arith) refl refl
-
--- the value fields of records that don't overlap are apart
-pub records-apart : (s : List ℕ) (h h′ : Shape) (at at′ z z′ u u′ n n′ k k′ : ℕ) → Right s h at z u n → Right s h′ at′ z′ u′ n′ → k < n → k′ < n′ → at + 4 + z ≤ at′
-    → placeOf (fieldOf h) at k + widthOf (fieldOf h) ≤ placeOf (fieldOf h′) at′ k′
-records-apart s h h′ at at′ z z′ u u′ n n′ k k′ r r′ l l′ a = omega (arith, field-within s h at z u n r k l .1, field-within s h′ at′ z′ u′ n′ r′ k′ l′ .0)
-
 -- a listed cell tells where its value field is, and of which kind
 pub cell-place : (s : List ℕ) (f : Field) (at k : ℕ) → (cellOf s f at k .field ≡ placeOf f at k) × (cellOf s f at k .kind ≡ f)
 unfolding cellOf cellFrom
@@ -107,12 +78,3 @@ module _ (s : List ℕ) (h : Shape) (at z k : ℕ) where
       let b = found-by (ltb k (countOf h s at z)) refl c left e in
       let n : length (cellsOf s h at z) ≡ countOf h s at z = cells-length (fieldOf h) s (rowAt s at) (countOf h s at z) (firstAt s at) (at + 8) in
       (cells-drop (fieldOf h) s (rowAt s at) (countOf h s at z) (firstAt s at) (at + 8) k _ _ (b .0) refl refl ∙ ap (λ (x : Cell). x ∷ drop (suc k) (cellsOf s h at z)) (sym (b .1)), omega (arith, b .0, b .2))
-
-  absent-by : (b : Bool) → ltb k (countOf h s at z) ≡ b → pick b (There (cellOf s (fieldOf h) at k) (countOf h s at z - (k + 1))) Absent ≡ Absent → countOf h s at z ≤ k
-  unfolding pick
-  absent-by true e i = never (cc)
-  absent-by false e i = ltb-false k (countOf h s at z) e
-
-  pub found-absent : foundOf s h at z k ≡ Absent → length (cellsOf s h at z) ≤ k
-  unfolding foundOf cellsOf
-  found-absent e = rw (cells-length (fieldOf h) s (rowAt s at) (countOf h s at z) (firstAt s at) (at + 8)) (absent-by (ltb k (countOf h s at z)) refl e)

@@ -10,7 +10,7 @@ use Rattle.cell.specs.declared.Shape.{Shape}
 use Rattle.cell.specs.declared.Cell.{Cell}
 use Rattle.cell.specs.Cells.{isCell, fieldOf, partOf, startOf, firstAt, countOf, fieldAt, fieldsFit}
 use Rattle.change.specs.declared.NewValue.{NewValue}
-use Rattle.change.specs.Change.{newOf, planOf, changed}
+use Rattle.change.specs.Change.{newOf}
 
 -- where the value field of the k-th cell of a record starts
 abbrev pub placeOf : Field → ℕ → ℕ → ℕ
@@ -43,7 +43,3 @@ pub record Says (f : Field) (v : NewValue) (unique b : ℕ) : Type 0 where
   pub right : valueFits f b ≡ true
   pub index : indexFits f b unique ≡ true
   pub value : valueOf f b ≡ newOf v
-
--- the stream after the value v is put into the k-th cell, where it is granted
-abbrev pub putInto : List ℕ → Shape → ℕ → ℕ → NewValue → ℕ → List ℕ
-putInto s h at k v unique = changed s (fieldOf h) (placeOf (fieldOf h) at k) (planOf (fieldOf h) v unique)

@@ -7,8 +7,8 @@ use native.Mathlib.Numerals.{add-one}
 use native.Mathlib.Omega.{arith}
 use native.Mathlib.Nat.{add-assoc}
 use lib.ListN.{length, getD, set, length-set}
-use lib.Seq.{sets, length-sets, getD-set-same, getD-set-other}
-use Rattle.le.specs.Bytes.{byteAt, numAt, u32At, u64At, bytesOf}
+use lib.Seq.{sets, getD-set-same, getD-set-other}
+use Rattle.le.specs.Bytes.{numAt, u32At, u64At, bytesOf}
 
 -- ---- a number from its halves, as `u64_at` reads them
 pub u64-halves : (s : List ℕ) (p : ℕ) {a b x y : ℕ} → a ≡ u32At s p → x ≡ a → b ≡ u32At s (p + 4) → y ≡ b → x + y * 4294967296 ≡ u64At s p

@@ -1,6 +1,6 @@
 -- The laws of the strings that two tables have in common. Assumes nothing.
 use Prim.Native.Nat.{ℕ, _+_, _^_, _≤_, _<_}
-use mathlib.Core.Path.{_≡_, refl, sym, ap, _∙_, subst}
+use mathlib.Core.Path.{_≡_, refl, sym, ap, _∙_}
 use mathlib.Core.Bool.{Bool, true, false}
 use mathlib.Core.List.{List, []}
 use native.Mathlib.Omega.{arith}
@@ -12,13 +12,13 @@ use Rattle.segments.specs.declared.Cursor.{Cursor}
 use Rattle.segments.specs.declared.Moved.{Moved}
 use Rattle.segments.specs.Segments.{got}
 use Rattle.segments.specs.Parts.{Inside, ends, moved}
-use Rattle.strings.specs.Table.{nextPlace, strings, first, placesOf, placeOf}
+use Rattle.strings.specs.Table.{nextPlace, strings, first, placesOf}
 use Rattle.strings.proofs.Laws.{first-inside, skipped-not, skipped-inside, placed-not, placed}
 use Rattle.marks.proofs.Laws.{strings-add}
 use Rattle.reading.specs.Reading.{stringsAt}
 use Rattle.differences.specs.Differences.{same}
 use Rattle.equality.specs.Equality.{Tabled, StringAt}
-use Rattle.equality.proofs.Laws.{table-whole, table-low, table-within, table-string, string-stands}
+use Rattle.equality.proofs.Laws.{table-low, table-within, table-string, string-stands}
 use Rattle.abreast.specs.Abreast.{Common}
 use Rattle.leading.specs.Leading.{Reached, Shared}
 

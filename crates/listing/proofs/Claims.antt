@@ -17,13 +17,13 @@ use Rattle.cell.specs.declared.Shape.the-variants.{BLANK, NUMBER, RK, LABELSST,
 use Rattle.cell.specs.declared.Cell.{Cell}
 use Rattle.cell.specs.declared.Found.{Found}
 use Rattle.cell.specs.declared.Found.the-variants.{There, Absent}
-use Rattle.cell.specs.Cells.{shapeOf, fieldOf, lengthAt, countOf, cellFrom, cellOf, foundOf, tokensOf}
+use Rattle.cell.specs.Cells.{shapeOf, fieldOf, lengthAt, countOf, cellFrom, cellOf, foundOf}
 use Rattle.cell.proofs.Sizes.{formula-below}
 use Rattle.sheetlist.specs.Agreement.{Sheet}
 use Rattle.globals.specs.Sheets.{sheetsFrom, sheetsOf}
 use Rattle.reading.specs.declared.Place.{Place}
 use Rattle.reading.specs.Cells.{otherItem, onFound, recordItem, onHeader, cellItem, remaining, listedFrom}
-use Rattle.reading.specs.Reading.{SheetReading, CellReading, nameAt, startOf, listedOf, rowsOf, cellReading, sheetReading, readingOf}
+use Rattle.reading.specs.Reading.{SheetReading, nameAt, listedOf, rowsOf, cellReading, sheetReading, readingOf}
 use Rattle.reading.proofs.Laws.{found-there}
 use Rattle.listing.specs.declared.NextSheet.{NextSheet}
 use Rattle.listing.specs.declared.NextSheet.the-variants as nextSheet

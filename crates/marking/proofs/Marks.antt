@@ -1,20 +1,17 @@
 -- Flags, used index by used index. Assumes nothing.
-use Prim.Native.Nat.{ℕ, zero, suc, _+_, _-_, _*_, _/_, _≤_, _<_}
+use Prim.Native.Nat.{ℕ, zero, suc, _+_, _-_, _*_, _≤_, _<_}
 use mathlib.Core.Path.{_≡_, refl, sym, ap, ap₂, _∙_, subst}
 use mathlib.Core.List.{List, [], _∷_}
 use mathlib.Core.Bool.{Bool, true, false, _||_}
 use native.Mathlib.Omega.{arith}
 use native.Mathlib.Nat.{div-lt-iff-lt-mul}
-use native.Mathlib.Numerals.{add-one}
-use lib.ListN.{length, getD, set, take, drop, length-set}
-use lib.Seq.{set-out, getD-set-same, getD-set-other, ext-getD}
-use lib.Dec.{leb, eqb}
-use borrow.Author.Tests.{leb-true, leb-false, eqb-true, eqb-false, eq-eqb, ne-eqb}
+use lib.ListN.{length, getD}
+use lib.Dec.{eqb}
+use borrow.Author.Tests.{eqb-true, eqb-false, eq-eqb, ne-eqb}
 use Rattle.walk.specs.Choice.{pick}
-use Rattle.walk.proofs.Choice.{pick-any, pick-by, pick-le, pick-nle, pick-true, pick-false}
-use Rattle.le.specs.Bytes.{byteAt, numAt, u32At}
-use Rattle.compact.specs.Entries as entries
-use Rattle.compact.specs.Entries.{Entry, entriesFrom, entriesOf}
+use Rattle.walk.proofs.Choice.{pick-any, pick-false}
+use Rattle.le.specs.Bytes.{numAt, u32At}
+use Rattle.compact.specs.Entries.{entriesFrom, entriesOf}
 use Rattle.compact.specs.Compact.{onText, textsIn, uses, usedBelow}
 use Rattle.newtable.specs.NewTable.{marksFrom}
 use Rattle.spots.specs.declared.Spot.{Spot}

@@ -1,11 +1,11 @@
 -- From entry to entry, as the functions walk. Assumes nothing.
-use Prim.Native.Nat.{ℕ, zero, suc, _+_, _-_, _*_, _≤_, _<_}
+use Prim.Native.Nat.{ℕ, _+_, _-_, _≤_, _<_}
 use mathlib.Core.Path.{_≡_, refl, sym, ap, _∙_, subst}
 use mathlib.Core.List.{List, [], _∷_}
-use mathlib.Core.Bool.{Bool, true, false}
+use mathlib.Core.Bool.{false}
 use native.Mathlib.Omega.{arith}
 use lib.ListN.{length}
-use lib.Dec.{leb, eqb}
+use lib.Dec.{leb}
 use borrow.Author.Tests.{leb-false}
 use Rattle.walk.proofs.Choice.{pick-any, pick-by}
 use Rattle.walk.specs.Items.{Item, gives, skips, ends, onto}
@@ -14,13 +14,12 @@ use Rattle.record.specs.declared.Header.the-variants as header
 use Rattle.record.specs.Record.{headerAt}
 use Rattle.record.proofs.Laws.{whole, header-end}
 use Rattle.compact.specs.Entries as entries
-use Rattle.compact.specs.Entries.{Entry, levelAfter, spotAfter, recordItem, restItem, onHeader, entryItem, entriesFrom, entriesOf}
+use Rattle.compact.specs.Entries.{Entry, levelAfter, spotAfter, recordItem, restItem, onHeader, entryItem, entriesFrom}
 use Rattle.compact.proofs.Entries.{entries-step}
 use Rattle.spots.specs.declared.Spot.{Spot}
-use Rattle.spots.specs.declared.Fate.{Fate}
 use Rattle.spots.specs.declared.Step.{Step}
 use Rattle.spots.specs.declared.Step.the-variants.{Record, Rest, End}
-use Rattle.spots.specs.Parts.{fated, spotOf, itemOf}
+use Rattle.spots.specs.Parts.{spotOf, itemOf}
 
 -- an entry goes ahead, and at most one level inside
 abbrev pub Ahead : List ℕ → entries.Spot → Item entries.Spot Entry → Type 0

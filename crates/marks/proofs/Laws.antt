@@ -1,15 +1,15 @@
 -- The laws of marks. Assumes nothing.
 use Prim.Native.Nat.{ℕ, zero, suc, _+_, _-_, _*_, _/_, _%_, _≤_, _<_}
-use mathlib.Core.Path.{_≡_, refl, sym, ap, _∙_, subst, subst⁻¹}
+use mathlib.Core.Path.{_≡_, refl, sym, ap, _∙_, subst}
 use mathlib.Core.Bool.{Bool, true, false}
-use mathlib.Core.List.{List, [], _∷_}
+use mathlib.Core.List.{List}
 use native.Mathlib.Omega.{arith}
-use native.Mathlib.Nat.{suc-mul, zero-mul, zero-add, suc-add, div-add-mod', mul-le-mul-right, mod-lt, div-lt-iff-lt-mul}
+use native.Mathlib.Nat.{suc-mul, zero-mul, zero-add, suc-add, div-add-mod', mul-le-mul-right}
 use lib.ListN.{length, getD, set, length-set}
 use lib.Seq.{getD-set-same, getD-set-other}
 use lib.Dec.{eqb, ltb}
 use borrow.Author.Tests.{eqb-true, eqb-false, ltb-true, ltb-false}
-use Rattle.walk.proofs.Choice.{never, pick-any}
+use Rattle.walk.proofs.Choice.{pick-any}
 use Rattle.segments.specs.declared.Cursor.{Cursor}
 use Rattle.segments.specs.declared.Moved.{Moved}
 use Rattle.record.specs.declared.Header.{Header}
@@ -20,7 +20,7 @@ use Rattle.segments.specs.Parts.{Inside, ends, moved}
 use Rattle.segments.proofs.Local.{refused-not}
 use Rattle.segments.proofs.Laws.{ends-push}
 use Rattle.strings.specs.Table.{startSize, head, rest, stringAt, nextPlace, strings, first, placesOf, placeOf}
-use Rattle.strings.proofs.Laws.{Stands, stands, first-inside, strings-inside, skipped-not, skipped-inside, placed-not, placed}
+use Rattle.strings.proofs.Laws.{first-inside, strings-inside, skipped-not, skipped-inside, placed-not, placed}
 use Rattle.marks.specs.Marks.{cursorAt, storedAt, Marked}
 
 -- ---- a strings, and b more
@@ -233,5 +233,3 @@ module _ (s : List ℕ) (p e n stride : ℕ) (low : p + 4 ≤ e) (within : e ≤
 
           pub place-there : (d : Cursor) → z ≡ Moved.To d → d ≡ placeOf s p e i
           place-there d o = placed s p e i (omega arith) low within r mark-passed a q z z-is d o
-
-pub ruleset place-laws = (mark-few, mark-inside, mark-on, place-there)

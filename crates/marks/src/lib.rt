@@ -2,9 +2,7 @@
 ghost use mathlib.Core.Path.{_≡_};
 ghost use Prim.Native.Nat.{_+_, _*_, _≤_, _<_};
 ghost use lib.ListN.{length};
-ghost use Rattle.segments.specs.Parts.{Inside, ends};
-ghost use Rattle.segments.specs.Segments.{got};
-ghost use Rattle.strings.specs.Table.{strings, first, placesOf, placeOf};
+ghost use Rattle.strings.specs.Table.{placesOf, placeOf};
 ghost use Rattle.marks.specs.Marks.{Marked, cursorAt, storedAt};
 use segments::Cursor;
 use segments::Moved;

@@ -1,23 +1,22 @@
 -- The laws of the merge. Assumes nothing.
-use Prim.Native.Nat.{ℕ, zero, suc, _+_, _-_, _*_, _≤_, _<_}
+use Prim.Native.Nat.{ℕ, suc, _+_, _-_, _*_, _≤_, _<_}
 use mathlib.Core.Path.{_≡_, refl, sym, ap, _∙_, subst}
 use mathlib.Core.Bool.{Bool, true, false}
 use mathlib.Core.List.{List, [], _∷_, _++_}
 use native.Mathlib.Omega.{arith}
 use lib.ListN.{length}
 use lib.Dec.{ltb}
-use Rattle.walk.specs.Choice.{pick}
-use Rattle.walk.proofs.Choice.{pick-lt, pick-nlt, pick-by, pick-true, pick-false, never}
+use Rattle.walk.proofs.Choice.{pick-lt, pick-nlt, pick-by, pick-true, pick-false}
 use borrow.Author.Tests.{ltb-true, ltb-false}
 use Rattle.cell.specs.declared.Cell.{Cell}
 use Rattle.value.specs.declared.CellValue.{CellValue}
 use Rattle.reading.specs.declared.Place.{Place}
 use Rattle.reading.specs.Cells.{listedFrom}
-use Rattle.differences.specs.Differences.{Difference, none, onlyFirst, onlySecond, unequal, between, alike, wordsOf, wordsFrom}
+use Rattle.differences.specs.Differences.{Difference, none, unequal, alike, wordsOf, wordsFrom}
 use Rattle.differences.specs.Units.{unitsBy}
 use Rattle.differences.proofs.Laws.{words-split, words-none}
 use Rattle.addresses.specs.declared.Head.{Head}
-use Rattle.addresses.specs.Addresses.{Stood, nothing, holds, told, valueIn, Ascends, Least, Follows, Onward, When}
+use Rattle.addresses.specs.Addresses.{holds, valueIn, Ascends, Least, Follows, Onward, When}
 use Rattle.addresses.proofs.Laws.{seek-start}
 use Rattle.merge.proofs.Puts.{puts-part, to-part, length-puts, puts-full, to-stays}
 use Rattle.merge.specs.declared.Turn.{Turn}

@@ -1,40 +1,37 @@
 -- The shift laws: a record whose bytes stand at p of s and at q of t says the same at both. Each is a drop law of `Views` at p and at q, and between them the
 -- law of two streams that have the same bytes at one place. Assumes nothing.
-use Prim.Native.Nat.{ℕ, zero, suc, _+_, _-_, _≤_, _<_}
+use Prim.Native.Nat.{ℕ, zero, suc, _+_, _≤_, _<_}
 use mathlib.Core.Path.{_≡_, refl, sym, ap, _∙_}
 use mathlib.Core.List.{List}
 use mathlib.Core.Bool.{Bool, true, false}
 use native.Mathlib.Omega.{arith}
 use lib.ListN.{length, drop}
-use lib.Dec.{ltb, eqb}
+use lib.Dec.{eqb}
 use borrow.Author.Tests.{eqb-true, ltb-true, lt-ltb}
 use Rattle.walk.specs.Choice.{pick}
-use Rattle.walk.proofs.Choice.{never, pick-same, pick-by}
+use Rattle.walk.proofs.Choice.{pick-same, pick-by}
 use Rattle.le.specs.Bytes.{numAt, u16At, u32At}
 use Rattle.le.proofs.Laws.{Same, num-same}
 use Rattle.record.specs.declared.Header.the-variants.{Record}
 use Rattle.record.specs.Record.{headerAt}
-use Rattle.record.proofs.Laws.{Whole, whole, header-whole}
+use Rattle.record.proofs.Laws.{whole, header-whole}
 use Rattle.value.specs.declared.Field.the-variants.{TextIndex}
 use Rattle.value.specs.Value.{indexFits}
 use Rattle.cell.specs.declared.Shape.{Shape}
 use Rattle.cell.specs.declared.Shape.the-variants.{LABELSST}
-use Rattle.cell.specs.declared.Judged.{Judged}
 use Rattle.cell.specs.declared.Judged.the-variants as judged
 use Rattle.cell.specs.Cells.{shapeOf, fieldOf, firstAt, fieldAt, fieldsFit, judged as judgedAt, judgeOf, sized, countOf}
 use Rattle.kept.specs.Claims.{Right}
-use Rattle.kept.proofs.Locality.{judge-local}
 use Rattle.kept.proofs.Records.{right, passes}
 use Rattle.substream.specs.declared.Here.{Here}
-use Rattle.substream.specs.declared.Step.{Step}
-use Rattle.substream.specs.Substream.{onJudged, otherRecord, recordIn}
+use Rattle.substream.specs.Substream.{onJudged, recordIn}
 use Rattle.segments.specs.declared.Cursor.{Cursor}
 use Rattle.segments.specs.Segments.{got}
 use Rattle.textresult.specs.TextResult.{hasText, textOf}
 use Rattle.upheld.specs.Local.{Moves}
 use Rattle.upheld.proofs.Steps.{record-local}
-use Rattle.moved.specs.Later.{laterJudged, laterStep}
-use Rattle.moved.proofs.Views.{num-drop, num-at, first-drop, judge-drop, record-drop}
+use Rattle.moved.specs.Later.{laterStep}
+use Rattle.moved.proofs.Views.{num-drop, num-at, record-drop}
 
 module _ (s t : List ℕ) (p q : ℕ) where
   -- a number inside the part that is the same
@@ -51,9 +48,6 @@ module _ (s t : List ℕ) (p q : ℕ) where
 
   -- ---- the judgement of a cell record
   module _ (z : ℕ) (same : Same (drop p s) (drop q t) 0 (4 + z)) where
-    pub judge-moved : (h : Shape) (u : ℕ) → laterJudged q (judgeOf (drop p s) h 0 z u) ≡ judgeOf t h q z u
-    judge-moved h u = ap (laterJudged q) (sym (judge-local (drop p s) (drop q t) 0 z h same u)) ∙ judge-drop t q h z u
-
     -- ---- a record of a substream that goes on: what it leads to, told from its own place on; so does the text result after it, if it is read
     pub record-moved : (k u : ℕ) (o : Bool) (ty : ℕ)
         → (k ≡ 0x0010 → hasText (drop p s) ty 0 ≡ true → (us : List ℕ) (d : Cursor) → textOf (drop p s) 0 (4 + z) ≡ got us d → textOf (drop q t) 0 (4 + z) ≡ got us d)

@@ -1,28 +1,25 @@
 -- The drop laws: what is read at p + i of a stream is what is read at i of its bytes from p on. They ask nothing of the stream. Assumes nothing.
-use Prim.Native.Nat.{ℕ, zero, suc, _+_, _-_, _*_}
-use mathlib.Core.Path.{_≡_, refl, sym, ap, ap₂, _∙_}
+use Prim.Native.Nat.{ℕ, zero, suc, _+_, _*_}
+use mathlib.Core.Path.{_≡_, refl, ap, ap₂, _∙_}
 use mathlib.Core.List.{List}
-use mathlib.Core.Bool.{Bool, true, false}
+use mathlib.Core.Bool.{Bool, false}
 use native.Mathlib.Omega.{arith}
-use lib.ListN.{length, getD, drop}
-use lib.Seq.{getD-drop}
-use lib.Dec.{ltb, leb, eqb}
+use lib.ListN.{drop}
+use lib.Dec.{leb}
 use Rattle.walk.specs.Choice.{pick}
-use Rattle.le.specs.Bytes.{numAt, u16At}
 use Rattle.value.specs.declared.Field.{Field}
-use Rattle.value.specs.Value.{widthOf, valueFits, indexFits}
+use Rattle.value.specs.Value.{widthOf, valueFits}
 use Rattle.cell.specs.declared.Shape.{Shape}
 use Rattle.cell.specs.declared.Shape.the-variants.{BLANK, NUMBER, RK, LABELSST, BOOLERR, MULRK, MULBLANK, FORMULA, OTHER}
 use Rattle.cell.specs.declared.Judged.{Judged}
 use Rattle.cell.specs.declared.Judged.the-variants as judged
-use Rattle.cell.specs.Cells.{shapeOf, isCell, fieldOf, partOf, startOf, rowAt, firstAt, lastAt, sized, columns, multiple, lengthAt, countOf, fieldAt, fieldsFit, judged as judgedAt, judgeOf}
+use Rattle.cell.specs.Cells.{shapeOf, fieldOf, partOf, startOf, rowAt, firstAt, lastAt, sized, columns, multiple, lengthAt, countOf, fieldAt, fieldsFit, judged as judgedAt, judgeOf}
 use Rattle.substream.specs.declared.Here.{Here}
-use Rattle.substream.specs.declared.Step.{Step}
-use Rattle.substream.specs.declared.Step.the-variants.{More, Open, Close, Stop}
-use Rattle.substream.specs.Substream.{past, pastParent, kindAt, versionAt, innerBof, otherRecord, dimensionsFit, dimensionsRecord, onText, passedRecord, onJudged, recordIn}
+use Rattle.substream.specs.declared.Step.the-variants.{Open, Stop}
+use Rattle.substream.specs.Substream.{innerBof, otherRecord, dimensionsFit, dimensionsRecord, onText, passedRecord, onJudged, recordIn}
 use Rattle.segments.specs.Segments.{Got, got, refused}
-use Rattle.textresult.specs.TextResult.{hasText, textOf}
-use Rattle.moved.specs.Later.{laterGot, laterJudged, laterHere, laterStep}
+use Rattle.textresult.specs.TextResult.{textOf}
+use Rattle.moved.specs.Later.{laterGot, laterJudged, laterStep}
 pub use Rattle.moved.proofs.Numbers.{pick-map, num-drop, num-at}
 use Rattle.moved.proofs.Texts.{text-drop, has-drop}
 

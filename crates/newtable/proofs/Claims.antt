@@ -1,14 +1,13 @@
 -- The claims. Assumes nothing.
-use Prim.Native.Nat.{ℕ, zero, suc, _+_, _-_, _^_, _≤_, _<_}
+use Prim.Native.Nat.{ℕ, _+_, _^_, _≤_, _<_}
 use mathlib.Core.Path.{_≡_, refl, sym, ap, ap₂, _∙_, subst}
-use mathlib.Core.List.{List, [], _∷_, _++_, map}
+use mathlib.Core.List.{List, []}
 use mathlib.Core.Bool.{Bool, true, false}
 use mathlib.Core.Logic.{_⊎_, inl, inr}
 use native.Mathlib.Omega.{arith}
-use lib.ListN.{length, drop, length-map}
+use lib.ListN.{length, length-map}
 use lib.Dec.{eqb}
 use borrow.Author.Tests.{eqb-true, eqb-false}
-use Rattle.walk.specs.Choice.{pick}
 use Rattle.walk.proofs.Choice.{pick-eq, pick-ne}
 use Rattle.walk.specs.Items.{nth}
 use Rattle.le.specs.Bytes.{u16At, u32At}
@@ -17,7 +16,7 @@ use Rattle.record.specs.Record.{headerAt}
 use Rattle.record.proofs.Laws.{whole}
 use Rattle.segments.specs.declared.Cursor.{Cursor}
 use Rattle.segments.specs.Segments.{Got, got, refused, listOf}
-use Rattle.strings.specs.Table.{tableOf, placesOf, stringsOf, unitsAt, first}
+use Rattle.strings.specs.Table.{tableOf, placesOf, stringsOf, first}
 use Rattle.strings.proofs.Local.{right}
 use Rattle.strings.proofs.Laws.{strings-count}
 use Rattle.value.specs.declared.CellValue.the-variants as value
@@ -29,13 +28,13 @@ use Rattle.workbook.specs.Check.{checkedOf, onChecked}
 use Rattle.reading.specs.Reading.{stringsAt, listedOf, readingOf}
 use Rattle.chain.specs.Chain.{Every}
 use Rattle.chain.proofs.Sheets.{passing}
-use Rattle.tabletexts.specs.Texts.{Text, textAt, theText, textsOf, AllHold, kept}
+use Rattle.tabletexts.specs.Texts.{Text, textAt, theText, textsOf, AllHold}
 use Rattle.tabletexts.specs.Written.{sstBody, tableBytes, tableSize}
 use Rattle.tabletexts.proofs.Held.{num-below, texts-hold, kept-hold, kept-few}
 use Rattle.tabletexts.proofs.Table.{sst-here, read, to-end, table-passes, texts-same, units-same, map-units}
 use Rattle.tabletexts.proofs.Size.{table-size}
 use Rattle.compact.specs.Entries.{entriesOf}
-use Rattle.compact.specs.Compact.{textsIn, uses, usedBelow, compactWith}
+use Rattle.compact.specs.Compact.{textsIn, uses, compactWith}
 use Rattle.compact.specs.Claims.{Standing, TableAt, IsTable, usedOf, TableOf, placeOf, Compacted}
 use Rattle.compact.proofs.Check.{compact-passes}
 use Rattle.compact.proofs.Check as check

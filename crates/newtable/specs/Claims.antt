@@ -1,5 +1,5 @@
 -- The claims of the stream without its unused strings: it passes, each cell shows the same text, doing it twice changes nothing.
-use Prim.Native.Nat.{ℕ, _+_, _^_, _≤_}
+use Prim.Native.Nat.{ℕ, _^_, _≤_}
 use mathlib.Core.Path.{_≡_}
 use mathlib.Core.List.{List, [], map}
 use lib.ListN.{length}

@@ -26,7 +26,6 @@ use Rattle.pair.specs.declared.PairChecked.{PairChecked}
 use Rattle.pair.specs.declared.PairChecked.the-variants as checked
 use Rattle.pair.specs.declared.PairSheet.{PairSheet}
 use Rattle.pair.specs.declared.PairSheet.the-variants as sheet
-use Rattle.pair.specs.declared.PairCells.{PairCells}
 use Rattle.pair.specs.declared.PairCells.the-variants as cells
 use Rattle.pair.specs.declared.Where.{Where}
 use Rattle.pair.specs.declared.Where.the-variants as where′

@@ -2,7 +2,6 @@
 ghost use mathlib.Core.Path.{_≡_};
 ghost use lib.ListN.{length};
 ghost use Rattle.change.specs.declared.NewValue.{NewValue};
-ghost use Rattle.reading.specs.Reading.{nameAt};
 ghost use Rattle.pair.specs.Pair.{pairOf, pairSheetOf, pairCellsOf, pairCorrectionOf, answerOf, sessionAfter};
 ghost use Rattle.pairtexts.specs.Texts.{pairFetchOf, pairBufferOf, pairTextOf, pairTextBuffer};
 ghost use Rattle.pairtexts.specs.Tables.{pairFillOf, templateTableAfter, sessionTableAfter};

@@ -1,8 +1,7 @@
 -- Demand 3 over the pair, from demand 3 over the session with the template's two numbers. Assumes nothing.
-use Prim.Native.Nat.{ℕ, zero, suc, _+_, _≤_, _<_}
-use mathlib.Core.Path.{_≡_, refl, sym, ap, ap₂, _∙_, subst}
+use Prim.Native.Nat.{ℕ, zero, suc, _<_}
+use mathlib.Core.Path.{_≡_, refl, sym, ap, _∙_, subst}
 use mathlib.Core.List.{List, [], _∷_, _++_, map}
-use mathlib.Core.Logic.{_↔_}
 use native.Mathlib.Omega.{arith}
 use lib.ListN.{length, drop}
 use lib.Seq.{drop-nil}
@@ -21,14 +20,14 @@ use Rattle.globals.specs.Sheets.{sheetsOf}
 use Rattle.workbook.specs.declared.Checked.{Checked}
 use Rattle.workbook.specs.declared.Checked.the-variants.{Right, Wrong}
 use Rattle.workbook.specs.Check.{checkedOf}
-use Rattle.reading.specs.Reading.{CellReading, SheetReading, Reading, readingOf, sheetReading}
+use Rattle.reading.specs.Reading.{CellReading, SheetReading, readingOf, sheetReading}
 use Rattle.correction.specs.Correction.{Correction, correctionIn, correctionOf, streamAfter}
 use Rattle.correction.specs.Correction as correction
 use Rattle.fetch.proofs.Laws.{checked-globals}
 use Rattle.chain.specs.Chain.{Nth, first, next}
 use Rattle.upheld.proofs.Upheld.{upheld}
-use Rattle.reread.specs.Replaced.{withValue, replacedSheet, onNth, replaced}
-use Rattle.claims.specs.Demand3.{Only, Refusal, spotOf, textOf}
+use Rattle.reread.specs.Replaced.{withValue, replacedSheet, onNth}
+use Rattle.claims.specs.Demand3.{spotOf, textOf}
 use Rattle.claims.specs.Demand3 as claims
 use Rattle.claims.proofs.Demand3 as base
 use Rattle.pair.specs.declared.Whose.{Whose}
@@ -37,7 +36,6 @@ use Rattle.pair.specs.declared.Of.{Of}
 use Rattle.pair.specs.declared.Of.the-variants as of
 use Rattle.pair.specs.declared.PairChecked.{PairChecked}
 use Rattle.pair.specs.declared.PairChecked.the-variants as checked
-use Rattle.pair.specs.declared.PairCorrected.{PairCorrected}
 use Rattle.pair.specs.declared.PairCorrected.the-variants as corrected
 use Rattle.pair.specs.Pair.{onSession, onTemplate, pairOf, Passes, onPair, sheetFrom, PairCorrection, refuses, writes, asked, pairCorrectionOf, answerOf, sessionAfter}
 use Rattle.pair.proofs.Laws.{passes-both, passes-is}

@@ -1,12 +1,12 @@
 -- The calls of one owner among those of others. Assumes nothing.
 use Prim.Native.Nat.{ℕ}
-use mathlib.Core.Path.{_≡_, refl, sym, ap, _∙_, subst}
+use mathlib.Core.Path.{_≡_, refl, ap, subst}
 use mathlib.Core.List.{List, [], _∷_}
 use mathlib.Core.Bool.{Bool, true, false}
 use lib.Dec.{eqb}
-use borrow.Author.Tests.{eqb-true, eq-eqb}
+use borrow.Author.Tests.{eqb-true}
 use Rattle.walk.specs.Choice.{pick}
-use Rattle.pairclaims.specs.Calls.{Memory, Call, Answer, answerTo, memoryAfter, Run, push, alone, Owned, ofOwner, with, Runs, pushOwned, run}
+use Rattle.pairclaims.specs.Calls.{Memory, Answer, answerTo, memoryAfter, alone, ofOwner, with, Runs, run}
 use Rattle.pairclaims.specs.Owners.{Interleaved}
 
 pub interleaved : Interleaved

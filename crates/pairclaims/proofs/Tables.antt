@@ -1,33 +1,26 @@
 -- From the pair's filling to a filling of each stream. Assumes nothing.
-use Prim.Native.Nat.{ℕ, _*_, _≤_, _<_}
-use mathlib.Core.Path.{_≡_, refl, sym, ap, _∙_, subst}
-use mathlib.Core.List.{List, []}
+use Prim.Native.Nat.{ℕ}
+use mathlib.Core.Path.{_≡_, refl, sym, ap, _∙_}
+use mathlib.Core.List.{List}
 use mathlib.Core.Bool.{Bool, true, false, _||_}
-use native.Mathlib.Omega.{arith}
 use lib.ListN.{length}
-use lib.Dec.{ltb}
-use borrow.Author.Tests.{ltb-false}
 use Rattle.walk.specs.Choice.{pick}
 use Rattle.walk.specs.Items.{nth}
-use Rattle.walk.proofs.Choice.{never, pick-by, pick-false}
+use Rattle.walk.proofs.Choice.{never, pick-false}
 use Rattle.strings.specs.declared.Fetched.the-variants.{Refused}
-use Rattle.strings.specs.Table.{fetchedOf, bufferOf}
+use Rattle.strings.specs.Table.{fetchedOf}
 use Rattle.globals.specs.declared.Globals.{Globals}
 use Rattle.workbook.specs.declared.Checked.the-variants.{Right}
 use Rattle.workbook.specs.Check.{checkedOf, onChecked}
-use Rattle.reading.specs.Reading.{stringsAt}
 use Rattle.fetch.specs.Fetch.{answerIn, bufferIn}
 use Rattle.fetch.proofs.Laws.{strings-none}
 use Rattle.places.specs.declared.Filled.the-variants as filled
 use Rattle.places.specs.Places.{placesAt, filledOf, tableOf, fillOf, tableAfter, throughOf, bufferThrough}
 use Rattle.places.proofs.Claims.{given, through-filled, buffer-filled}
 use Rattle.pair.specs.declared.Of.the-variants as of
-use Rattle.pairtexts.specs.declared.PairFilled.{PairFilled}
 use Rattle.pairtexts.specs.declared.PairFilled.the-variants.{Strings}
 use Rattle.pairtexts.specs.declared.PairFilled.the-variants as pairFilled
-use Rattle.pair.specs.declared.PairChecked.{PairChecked}
-use Rattle.pair.specs.declared.PairChecked.the-variants as checked
-use Rattle.pair.specs.Pair.{pairOf, Passes, onPair}
+use Rattle.pair.specs.Pair.{Passes, onPair}
 use Rattle.pair.proofs.Laws.{passes-is}
 use Rattle.pairtexts.specs.Tables.{tooShort, eitherShort, bothFilled, firstTable, secondTable, pairFillOf, templateTableAfter, sessionTableAfter}
 use Rattle.pairclaims.specs.Tables.{AsPlain, PairAsPlain, NoTable}

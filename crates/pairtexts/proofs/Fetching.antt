@@ -1,17 +1,16 @@
 -- The laws of a fetch over the pair. Assumes nothing.
 use Prim.Native.Nat.{ℕ, zero, suc, _+_, _≤_, _<_}
-use mathlib.Core.Path.{_≡_, refl, sym, ap, _∙_, subst, subst⁻¹}
+use mathlib.Core.Path.{_≡_, refl, sym, ap, _∙_, subst⁻¹}
 use mathlib.Core.List.{List, [], _∷_, map}
 use mathlib.Core.Bool.{Bool, true, false}
-use mathlib.Core.Logic.{_⊎_, inl, inr}
+use mathlib.Core.Logic.{inl, inr}
 use native.Mathlib.Omega.{arith}
 use lib.ListN.{length, getD}
 use lib.Dec.{ltb}
 use Rattle.walk.specs.Choice.{pick}
 use Rattle.walk.specs.Items.{nth}
-use Rattle.walk.proofs.Choice.{never, pick-eq, pick-ne}
+use Rattle.walk.proofs.Choice.{pick-eq, pick-ne}
 use Rattle.le.specs.Bytes.{u16At}
-use Rattle.segments.specs.declared.Cursor.{Cursor}
 use Rattle.strings.specs.declared.Fetched.{Fetched}
 use Rattle.strings.specs.declared.Fetched.the-variants as strings
 use Rattle.strings.specs.Table.{unitsAt, nowhere, placesOf, unitsOf, fetchedOf, bufferOf}

@@ -7,9 +7,7 @@ use lib.ListN.{length}
 use lib.Dec.{ltb}
 use Rattle.walk.specs.Choice.{pick}
 use Rattle.segments.specs.declared.Cursor.{Cursor}
-use Rattle.globals.specs.declared.Globals.{Globals}
 use Rattle.places.specs.Places.{placesAt, tableOf}
-use Rattle.pair.specs.declared.Of.{Of}
 use Rattle.pair.specs.declared.Of.the-variants as of
 use Rattle.pairtexts.specs.declared.PairFilled.{PairFilled}
 use Rattle.pairtexts.specs.declared.PairFilled.the-variants as filled

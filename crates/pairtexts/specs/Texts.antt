@@ -15,7 +15,6 @@ use Rattle.correction.specs.Correction.{cellsAt}
 use Rattle.celltext.specs.CellText.{answerTo, bufferTo}
 use Rattle.pair.specs.declared.Whose.{Whose}
 use Rattle.pair.specs.declared.Whose.the-variants.{Session, Template}
-use Rattle.pair.specs.declared.Of.{Of}
 use Rattle.pair.specs.declared.Of.the-variants as of
 use Rattle.pair.specs.Pair.{pairOf, onPair, sheetFrom}
 use Rattle.pairtexts.specs.declared.PairFetched.{PairFetched}

@@ -2,29 +2,25 @@
 use Prim.Native.Nat.{ℕ, zero, suc, _+_, _-_, _*_, _≤_, _<_}
 use mathlib.Core.Path.{_≡_, refl, sym, ap, _∙_, subst}
 use mathlib.Core.List.{List, [], _∷_, _++_, map}
-use mathlib.Core.Bool.{Bool, true, false}
-use mathlib.Core.Logic.{_⊎_, inl, inr}
+use mathlib.Core.Logic.{inl, inr}
 use native.Mathlib.Omega.{arith}
 use lib.ListN.{length, getD, replicate, length-append, length-replicate, getD-replicate}
 use lib.Seq.{getD-append-add}
-use lib.Dec.{ltb, eqb}
+use lib.Dec.{ltb}
 use borrow.Author.Tests.{ltb-true, ltb-false}
-use Rattle.walk.specs.Choice.{pick}
 use Rattle.walk.specs.Items.{nth}
 use Rattle.walk.proofs.Choice.{never, pick-by, pick-true, pick-le, pick-lt, pick-nlt}
 use Rattle.le.specs.Bytes.{u16At}
-use Rattle.record.specs.declared.Header.{Header}
-use Rattle.record.specs.declared.Header.the-variants.{Record, Cut, End}
+use Rattle.record.specs.declared.Header.the-variants.{End}
 use Rattle.record.specs.Record.{headerAt}
 use Rattle.segments.specs.declared.Cursor.{Cursor}
 use Rattle.segments.specs.Segments.{Got, got, refused, listOf}
 use Rattle.segments.specs.Parts.{Passes}
-use Rattle.strings.specs.declared.Fetched.{Fetched}
 use Rattle.strings.specs.declared.Fetched.the-variants as fetched
-use Rattle.strings.specs.Table.{stringAt, unitsAt, first, nowhere, placesOf, placeOf, fetchedOf, bufferOf}
+use Rattle.strings.specs.Table.{stringAt, unitsAt, nowhere, placesOf, fetchedOf, bufferOf}
 use Rattle.strings.proofs.Laws.{stands}
 use Rattle.globals.specs.declared.Globals.{Globals}
-use Rattle.globals.proofs.Table.{Stands, TableTold, table-told}
+use Rattle.globals.proofs.Table.{table-told}
 use Rattle.workbook.specs.declared.Checked.{Checked}
 use Rattle.workbook.specs.declared.Checked.the-variants.{Right, Wrong}
 use Rattle.workbook.specs.Check.{checkedOf, onChecked}
@@ -35,11 +31,11 @@ use Rattle.fetch.specs.Fetch.{answerIn, answerOf, bufferIn, bufferAfter}
 use Rattle.fetch.proofs.Laws.{checked-globals, strings-none, strings-some}
 use Rattle.places.specs.declared.Filled.{Filled}
 use Rattle.places.specs.declared.Filled.the-variants.{Strings, Refused}
-use Rattle.places.specs.Places.{numbersOf, unused, placesAt, filledOf, tableOf, fillOf, tableAfter, holdsStrings, onSegment, stringBy, fetchedBy, throughOf, bufferThrough}
+use Rattle.places.specs.Places.{numbersOf, unused, placesAt, filledOf, tableOf, fillOf, tableAfter, onSegment, stringBy, fetchedBy, throughOf, bufferThrough}
 use Rattle.places.specs.Parts.{Segment, countOf, TableAt}
 use Rattle.places.specs.Claims.{FetchesAsPlain}
 use Rattle.places.proofs.Standing.{segment-of, string-head}
-use Rattle.places.proofs.Filling.{length-numbers, places-none, places-some, first-segment, places-count, counted}
+use Rattle.places.proofs.Filling.{length-numbers, places-none, places-some, first-segment, counted}
 
 -- ---- the numbers of the table
 twice-suc : (i : ℕ) → 2 * suc i ≡ suc (suc (2 * i))

@@ -1,7 +1,7 @@
 -- The laws that the functions' proofs cite. Assumes nothing.
-use Prim.Native.Nat.{ℕ, zero, suc, _+_, _-_, _*_, _≤_, _<_}
+use Prim.Native.Nat.{ℕ, suc, _+_, _-_, _*_, _≤_, _<_}
 use mathlib.Core.Path.{_≡_, refl, sym, ap, _∙_, subst}
-use mathlib.Core.List.{List, [], _∷_, _++_}
+use mathlib.Core.List.{List, _∷_}
 use native.Mathlib.Omega.{arith}
 use lib.ListN.{length, set, replicate, length-set}
 use lib.Seq.{sets}
@@ -19,8 +19,6 @@ use Rattle.places.specs.Parts.{Segment, withEntry}
 use Rattle.places.proofs.Standing.{segment-place, segment-string}
 
 -- ---- all numbers from a place on
-pub unused-start : (x : List ℕ) → x ≡ x
-unused-start x = refl
 
 pub unused-end : (x t : List ℕ) (j : ℕ) → x ≡ stored t j (replicate (length t - j) unused) → length t ≤ j → t ≡ x
 unfolding stored

@@ -1,14 +1,13 @@
 -- Wherever the reading of strings comes to, it stands in the body of an SST or a CONTINUE, if it began in one. Assumes nothing.
 use Prim.Native.Nat.{ℕ, zero, suc, _+_, _-_, _≤_, _<_}
 use mathlib.Core.Path.{_≡_, refl, sym, ap, _∙_, subst}
-use mathlib.Core.List.{List, [], _∷_}
+use mathlib.Core.List.{List}
 use mathlib.Core.Bool.{Bool, true, false}
 use native.Mathlib.Omega.{arith}
-use lib.ListN.{length, getD}
-use lib.Dec.{eqb}
+use lib.ListN.{length}
 use borrow.Author.Tests.{eqb-true, ltb-false}
 use Rattle.walk.specs.Choice.{pick}
-use Rattle.walk.proofs.Choice.{pick-any, pick-by, pick-true}
+use Rattle.walk.proofs.Choice.{pick-any, pick-by}
 use Rattle.le.specs.Bytes.{byteAt, u16At}
 use Rattle.record.specs.declared.Header.{Header}
 use Rattle.record.specs.declared.Header.the-variants.{Record, Cut, End}
@@ -17,10 +16,10 @@ use Rattle.record.proofs.Laws.{whole}
 use Rattle.segments.specs.declared.Cursor.{Cursor}
 use Rattle.segments.specs.declared.Moved.{Moved}
 use Rattle.segments.specs.Segments.{Got, got, refused, then, push, on, continues, segmentOf, nextSegment, need, widthOf, enter, room, items}
-use Rattle.segments.specs.Parts.{Inside, ends, moved, Passes}
-use Rattle.segments.proofs.Local.{refused-not, need-is}
+use Rattle.segments.specs.Parts.{ends, moved, Passes}
+use Rattle.segments.proofs.Local.{refused-not}
 use Rattle.strings.specs.Table.{headSize, headAt, startSize, head, rest, stringAt, nextPlace, strings, first, placesOf, placeOf}
-use Rattle.strings.proofs.Laws.{Stands, stands}
+use Rattle.strings.proofs.Laws.{stands}
 use Rattle.places.specs.Places.{holdsStrings}
 use Rattle.places.specs.Parts.{Segment}
 

@@ -9,7 +9,7 @@ use Rattle.walk.proofs.Choice.{pick-true, pick-false, pick-lt, pick-nlt}
 use Rattle.record.specs.declared.Header.{Header}
 use Rattle.record.specs.declared.Header.the-variants.{Record, Cut, End}
 use Rattle.record.specs.Record.{headerAt}
-use Rattle.record.proofs.Laws.{Whole, whole}
+use Rattle.record.proofs.Laws.{whole}
 use Rattle.segments.specs.declared.Cursor.{Cursor}
 use Rattle.segments.specs.declared.Moved.{Moved}
 use Rattle.segments.specs.Segments.{Got, got, refused, listOf}

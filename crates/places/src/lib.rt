@@ -1,8 +1,7 @@
 // The places of the shared strings, kept in a lent table of 32-bit numbers; and a string fetched through such a table.
 ghost use mathlib.Core.Path.{_≡_};
 ghost use Prim.Native.Nat.{_+_, _-_, _*_, _≤_, _<_};
-ghost use mathlib.Core.List.{_++_};
-ghost use lib.ListN.{length, getD, set, replicate};
+ghost use lib.ListN.{length, set, replicate};
 ghost use Rattle.record.specs.Record.{headerAt};
 ghost use Rattle.segments.specs.Segments.{listOf};
 ghost use Rattle.segments.specs.Parts.{Inside, ends, moved, Passes, stored};

@@ -1,6 +1,6 @@
 // The session profile: whether a stream is of the kind that the sensors write.
 ghost use mathlib.Core.Path.{_≡_};
-ghost use Prim.Native.Nat.{_+_, _<_, _/_, _%_};
+ghost use Prim.Native.Nat.{_<_, _/_, _%_};
 ghost use Rattle.walk.specs.Items.{nth};
 ghost use Rattle.reading.specs.Cells.{listedFrom};
 ghost use Rattle.listing.specs.Listing.{nextOf};

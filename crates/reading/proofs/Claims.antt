@@ -5,7 +5,6 @@ use mathlib.Core.List.{List, [], _∷_, map}
 use native.Mathlib.Omega.{arith}
 use lib.ListN.{length}
 use Rattle.cell.specs.declared.Cell.{Cell}
-use Rattle.sheetlist.specs.Agreement.{Sheet}
 use Rattle.globals.specs.Sheets.{sheetsOf}
 use Rattle.reading.specs.Reading.{CellReading, SheetReading, listedOf, rowsOf, cellReading, sheetReading, readingOf}
 use Rattle.reading.specs.Claims.{Every, SheetsRead, RowsCounted}

@@ -1,17 +1,15 @@
 -- The listing of a sheet's cells: each step comes nearer the end, and a record's cells come one after the other. Assumes nothing.
 use Prim.Native.Nat.{ℕ, zero, suc, _+_, _-_, _*_, _≤_, _<_}
-use mathlib.Core.Path.{_≡_, refl, sym, ap, _∙_, subst⁻¹}
-use mathlib.Core.List.{List, [], _∷_, _++_}
+use mathlib.Core.Path.{_≡_, refl, sym, ap, _∙_}
+use mathlib.Core.List.{List, _∷_, _++_}
 use mathlib.Core.Bool.{Bool, true, false}
 use native.Mathlib.Omega.{arith}
-use native.Mathlib.Numerals.{add-one}
-use native.Mathlib.Nat.{add-zero, zero-mul}
-use lib.ListN.{length}
-use lib.Dec.{ltb, leb, eqb}
-use borrow.Author.Tests.{ltb-true, ltb-false, eqb-true, eqb-false, eq-eqb}
+use native.Mathlib.Nat.{add-zero}
+use lib.Dec.{ltb, eqb}
+use borrow.Author.Tests.{ltb-true, ltb-false}
 use Rattle.walk.specs.Choice.{pick}
 use Rattle.walk.proofs.Choice.{pick-any, pick-by, pick-eq, pick-ne, pick-lt, pick-nlt}
-use Rattle.walk.specs.Items.{Item, gives, skips, ends, onto, collect}
+use Rattle.walk.specs.Items.{Item, gives, onto}
 use Rattle.walk.proofs.Items.{Nearer, collect-step}
 use Rattle.record.specs.declared.Header.{Header}
 use Rattle.record.specs.declared.Header.the-variants.{Record, Cut, End}
@@ -23,7 +21,7 @@ use Rattle.cell.specs.declared.Shape.the-variants.{BLANK, NUMBER, RK, LABELSST,
 use Rattle.cell.specs.declared.Cell.{Cell}
 use Rattle.cell.specs.declared.Found.{Found}
 use Rattle.cell.specs.declared.Found.the-variants.{There, Absent}
-use Rattle.cell.specs.Cells.{shapeOf, fieldOf, partOf, rowAt, firstAt, sized, multiple, lengthAt, countOf, cellFrom, cellsFrom, cellsOf, cellOf, foundOf}
+use Rattle.cell.specs.Cells.{shapeOf, fieldOf, partOf, rowAt, firstAt, sized, multiple, countOf, cellsFrom, cellsOf, cellOf, foundOf}
 use Rattle.cell.proofs.Sizes.{multiple-below}
 use Rattle.reading.specs.declared.Place.{Place}
 use Rattle.reading.specs.Cells.{placeAt, nextPart, otherItem, onFound, recordItem, onHeader, cellItem, remaining, listedFrom}

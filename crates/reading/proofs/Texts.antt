@@ -1,12 +1,11 @@
 -- A cell whose value says text stands in a FORMULA with a text result, as its one cell. Assumes nothing.
-use Prim.Native.Nat.{ℕ, _+_, _-_, _*_, _/_, _≤_, _<_}
-use mathlib.Core.Path.{_≡_, refl, sym, ap, _∙_, subst}
+use Prim.Native.Nat.{ℕ, _+_, _*_, _/_, _≤_, _<_}
+use mathlib.Core.Path.{_≡_, refl, ap, _∙_, subst}
 use mathlib.Core.List.{List}
 use mathlib.Core.Bool.{Bool, true, false}
 use native.Mathlib.Omega.{arith}
 use lib.Dec.{eqb}
 use borrow.Author.Tests.{eqb-true, eqb-false}
-use Rattle.walk.specs.Choice.{pick}
 use Rattle.walk.proofs.Choice.{never, pick-any, pick-by, pick-eq, pick-ne}
 use Rattle.le.specs.Bytes.{numAt, u64At}
 use Rattle.number.specs.Float64.{isNanBits}
@@ -17,7 +16,6 @@ use Rattle.value.specs.declared.CellValue.{CellValue}
 use Rattle.value.specs.Value.{floatValue, rkValue, truthError, resultOf, valueOf}
 use Rattle.cell.specs.declared.Shape.{Shape}
 use Rattle.cell.specs.declared.Shape.the-variants.{FORMULA}
-use Rattle.cell.specs.declared.Cell.{Cell}
 use Rattle.cell.specs.Cells.{shapeOf, fieldOf, partOf, startOf, lengthAt, countOf, fieldAt, cellFrom, cellOf}
 use Rattle.cell.proofs.Sizes.{formula-shape, formula-below}
 use Rattle.textresult.specs.TextResult.{isText, hasText}

@@ -2,7 +2,7 @@
 -- format index, the offset of the value field or, for a blank, of the format, and the units of its text result), and each shared string's units.
 use Prim.Native.Nat.{ℕ, _+_, _-_, max}
 use mathlib.Core.List.{List, [], _∷_, map}
-use mathlib.Core.Bool.{Bool, true, false}
+use mathlib.Core.Bool.{Bool, false}
 use lib.ListN.{length, take, drop}
 use lib.Dec.{ltb, eqb}
 use Rattle.walk.specs.Choice.{pick}
@@ -19,7 +19,6 @@ use Rattle.cell.specs.declared.Cell.{Cell}
 use Rattle.cell.specs.declared.Tokens.{Tokens}
 use Rattle.cell.specs.Cells.{tokensOf}
 use Rattle.sheetlist.specs.Agreement.{Sheet}
-use Rattle.globals.specs.declared.Globals.{Globals}
 use Rattle.globals.specs.declared.Ended.{Ended}
 use Rattle.globals.specs.declared.Ended.the-variants as globals
 use Rattle.globals.specs.Globals.{globalsOf}

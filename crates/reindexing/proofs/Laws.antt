@@ -1,20 +1,20 @@
 -- The functions' laws. Assumes nothing.
-use Prim.Native.Nat.{ℕ, zero, suc, _+_, _-_, _*_, _^_, _≤_, _<_}
-use mathlib.Core.Path.{_≡_, refl, sym, ap, ap₂, _∙_, subst}
-use mathlib.Core.List.{List, [], _∷_, _++_}
-use mathlib.Core.Bool.{Bool, true, false}
+use Prim.Native.Nat.{ℕ, _+_, _-_, _*_, _≤_, _<_}
+use mathlib.Core.Path.{_≡_, refl, sym, ap, _∙_, subst}
+use mathlib.Core.List.{List, [], _∷_}
+use mathlib.Core.Bool.{false}
 use native.Mathlib.Omega.{arith}
-use lib.ListN.{length, getD}
-use lib.Dec.{ltb, leb, eqb}
+use lib.ListN.{length}
+use lib.Dec.{ltb, leb}
 use borrow.Author.Tests.{ltb-true, ltb-false, leb-true}
 use Rattle.walk.specs.Choice.{pick}
-use Rattle.walk.proofs.Choice.{never, pick-any, pick-by, pick-lt, pick-nlt, pick-same}
+use Rattle.walk.proofs.Choice.{never, pick-by, pick-lt, pick-nlt, pick-same}
 use Rattle.le.specs.Bytes.{u32At, bytesOf}
-use lib.Seq.{sets, length-sets}
+use lib.Seq.{sets}
 use Rattle.reading.specs.Claims.{Every}
 use Rattle.compact.specs.Entries as entries
 use Rattle.compact.specs.Entries.{Entry, entryItem, entriesFrom, entriesOf}
-use Rattle.compact.specs.Compact.{bytesAt, onText, textsIn, uses, usedBelow, indexIn}
+use Rattle.compact.specs.Compact.{bytesAt, onText, textsIn, usedBelow, indexIn}
 use Rattle.compact.proofs.Places.{index-some}
 use Rattle.spots.specs.declared.Spot.{Spot}
 use Rattle.spots.specs.declared.Fate.{Fate}
@@ -56,20 +56,6 @@ module _ (s : List ℕ) (p : ℕ) (x : Fate) where
 
   pub top-text : (a b i j : ℕ) → x ≡ Text → j ≡ u32At s (p + 10) → i ≡ j → b ≡ topIn (i ∷ []) a → b ≡ topIn l a
   top-text a b i j e f g h = rw e (h ∙ ap (λ (k : ℕ). topIn (k ∷ []) a) (g ∙ f))
-
-  none-is : (x : Fate) → (x ≡ Text → ⊥) → onText s p (fated x) [] ≡ []
-  none-is Stays h = refl
-  none-is Goes h = refl
-  none-is Table h = refl
-  none-is Text h = absurd (h refl)
-  none-is Sheet h = refl
-
-  count-none : (a : ℕ) → (x ≡ Text → ⊥) → a ≡ a + length l
-  count-none a h = let e = ap length (none-is x h) in omega arith
-
-  top-none : (a : ℕ) → (x ≡ Text → ⊥) → a ≡ topIn l a
-  unfolding topIn
-  top-none a h = ap (λ (k : List ℕ). topIn k a) (sym (none-is x h))
 
 module _ (s : List ℕ) (p : ℕ) (x : Fate) (a : ℕ) where
   pub count-stays : x ≡ Stays → a ≡ a + length (onText s p (fated x) [])

@@ -1,7 +1,6 @@
 -- The text cells' new indices, chunk by chunk, and what is counted before.
 use Prim.Native.Nat.{ℕ, _+_, _≤_}
 use mathlib.Core.List.{List, [], _∷_}
-use lib.ListN.{length}
 use lib.Dec.{ltb}
 use Rattle.walk.specs.Choice.{pick}
 use Rattle.compact.specs.Entries.{entriesOf}

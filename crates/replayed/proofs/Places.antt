@@ -94,9 +94,6 @@ module _ (j : List ℕ) (e : ℕ) (x : Entry) where
     len₆ : length j₆ ≡ length j
     len₆ = put-length j₅ (e + 12) 8 (x .old) ∙ put-length j₄ (e + 10) 2 (x .width) ∙ put-length j₃ (e + 8) 2 (x .kind) ∙ put-length j₂ (e + 6) 2 (x .column) ∙ put-length j₁ (e + 4) 2 (x .row) ∙ put-length j e 4 (x .sheet)
 
-    len₇ : length j₇ ≡ length j
-    len₇ = put-length j₆ (e + 20) 8 (x .new) ∙ put-length j₅ (e + 12) 8 (x .old) ∙ put-length j₄ (e + 10) 2 (x .width) ∙ put-length j₃ (e + 8) 2 (x .kind) ∙ put-length j₂ (e + 6) 2 (x .column) ∙ put-length j₁ (e + 4) 2 (x .row) ∙ put-length j e 4 (x .sheet)
-
     read-sheet : numAt j₇ 4 e ≡ x .sheet
     read-sheet =
         put-else j₆ (e + 20) 8 (x .new) 4 e (inl (omega arith))

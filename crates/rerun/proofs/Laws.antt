@@ -156,9 +156,6 @@ module _ (unique t : ℕ) (j : List ℕ) (count : ℕ) (s₀ s : List ℕ) (i at
     fore-batch l m h = let e = inv .comes .1 in omega arith
 
     module _ {d : Done} (d-is : d ≡ doneOf (makeOf unique t (entryIn j at) s)) {x : List ℕ} (x-is : x ≡ streamAfter s (makeOf unique t (entryIn j at) s)) where
-      pub fore-same : length x ≡ length s → length x ≡ length s₀
-      fore-same e = e ∙ inv .comes .2
-
       pub fore-stop : (m : ℕ) → d ≡ done.Stopped m → run.Stopped m i ≡ runOf (forwards unique t j 0 count s₀)
       fore-stop m h = going-stop unique t j count s₀ s i at (inv .comes) more d-is x-is m h
 

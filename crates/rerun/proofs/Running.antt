@@ -93,16 +93,7 @@ pub going-start : (unique t : ℕ) (j : List ℕ) (count : ℕ) (s₀ : List ℕ
 going-start unique t j count s₀ = let e : count ≡ count - 0 = omega arith in (omega arith, omega arith, refl, ap (λ (n : ℕ). forwards unique t j 0 n s₀) e)
 
 module _ (unique t : ℕ) (j : List ℕ) (count : ℕ) (s₀ s : List ℕ) (i at : ℕ) (inv : Going unique t j count s₀ s i at) where
-  pub going-length : length s ≡ length s₀
-  going-length = inv .2
-
-  pub going-low : length s₀ ≤ 16777216 → length s ≤ 16777216
-  going-low l = let e = inv .2 in omega arith
-
   module _ (more : i < count) where
-    pub going-room : 16 + count * 28 ≤ length j → at + 28 ≤ length j
-    going-room l = let e = inv .1 in omega arith
-
     abbrev c : Correction
     c = makeOf unique t (entryIn j at) s
 
@@ -150,19 +141,7 @@ pub backing-start : (unique t : ℕ) (j : List ℕ) (count : ℕ) (s₀ : List �
 backing-start unique t j count s₀ e = (omega arith, omega arith, refl, refl)
 
 module _ (unique t : ℕ) (j : List ℕ) (count : ℕ) (s₀ s : List ℕ) (n at : ℕ) (inv : Backing unique t j count s₀ s n at) where
-  pub backing-length : length s ≡ length s₀
-  backing-length = inv .2
-
-  pub backing-low : length s₀ ≤ 16777216 → length s ≤ 16777216
-  backing-low l = let e = inv .2 in omega arith
-
   module _ (more : 0 < n) where
-    pub backing-sub : 28 ≤ at
-    backing-sub = let e = inv .1 in omega arith
-
-    pub backing-room : 16 + count * 28 ≤ length j → at - 28 + 28 ≤ length j
-    backing-room l = let e = inv .1 in let m = inv .0 in omega arith
-
     abbrev u : Correction
     u = undoOf unique t (entryIn j (at - 28)) s
 

@@ -1,5 +1,5 @@
 -- The cells of a worksheet in both streams: the same, but for the text indices. Assumes nothing.
-use Prim.Native.Nat.{ℕ, zero, suc, _+_, _-_, _*_, _^_, _≤_, _<_}
+use Prim.Native.Nat.{ℕ, zero, suc, _+_, _-_, _^_, _≤_, _<_}
 use mathlib.Core.Path.{_≡_, refl, sym, ap, ap₂, _∙_, subst}
 use mathlib.Core.List.{List, [], _∷_, _++_, map}
 use mathlib.Core.Bool.{Bool, true, false}
@@ -10,7 +10,7 @@ use lib.Dec.{eqb, ltb}
 use borrow.Author.Tests.{eqb-true, eqb-false, ltb-true, ltb-false}
 use Rattle.walk.specs.Choice.{pick}
 use Rattle.walk.proofs.Choice.{never}
-use Rattle.le.specs.Bytes.{numAt, u32At}
+use Rattle.le.specs.Bytes.{u32At}
 use Rattle.le.proofs.Laws.{Same}
 use Rattle.record.specs.declared.Header.{Header}
 use Rattle.record.specs.declared.Header.the-variants.{Record, Cut, End}

@@ -1,43 +1,35 @@
 -- The listing of a worksheet's cells in both streams, record by record. Assumes nothing.
-use Prim.Native.Nat.{ℕ, zero, suc, _+_, _-_, _*_, _^_, _≤_, _<_}
-use mathlib.Core.Path.{_≡_, refl, sym, ap, ap₂, _∙_, subst}
-use mathlib.Core.List.{List, [], _∷_, _++_, map}
-use mathlib.Core.Bool.{Bool, true, false}
+use Prim.Native.Nat.{ℕ, _+_, _-_, _≤_, _<_}
+use mathlib.Core.Path.{_≡_, refl, sym, ap, _∙_, subst}
+use mathlib.Core.List.{List, []}
 use mathlib.Core.Logic.{_⊎_, inl, inr}
 use native.Mathlib.Omega.{arith}
-use lib.ListN.{length, drop}
-use lib.Dec.{eqb, ltb}
-use borrow.Author.Tests.{eqb-true, eqb-false}
+use lib.ListN.{length}
+use lib.Dec.{eqb}
+use borrow.Author.Tests.{eqb-true}
 use Rattle.walk.specs.Choice.{pick}
-use Rattle.walk.proofs.Choice.{never, pick-any, pick-by, pick-eq, pick-ne, pick-lt, pick-nlt}
-use Rattle.walk.specs.Items.{Item, gives, skips, ends, onto}
+use Rattle.walk.proofs.Choice.{never, pick-by, pick-eq, pick-ne, pick-lt, pick-nlt}
+use Rattle.walk.specs.Items.{Item, skips, ends, onto}
 use Rattle.le.specs.Bytes.{u32At}
-use Rattle.le.proofs.Laws.{Same}
-use Rattle.record.specs.declared.Header.{Header}
 use Rattle.record.specs.declared.Header.the-variants.{Record, Cut, End}
 use Rattle.record.specs.Record.{headerAt}
-use Rattle.record.proofs.Laws.{whole}
 use Rattle.cell.specs.declared.Judged.{Judged}
 use Rattle.cell.specs.declared.Judged.the-variants as judged
-use Rattle.cell.specs.declared.Shape.the-variants.{LABELSST, OTHER}
+use Rattle.cell.specs.declared.Shape.the-variants.{LABELSST}
 use Rattle.cell.specs.declared.Cell.{Cell}
-use Rattle.cell.specs.declared.Found.{Found}
-use Rattle.cell.specs.declared.Found.the-variants.{There, Absent}
-use Rattle.cell.specs.Cells.{shapeOf, countOf, cellsOf, foundOf, judgeOf}
+use Rattle.cell.specs.Cells.{shapeOf, countOf, judgeOf}
 use Rattle.substream.specs.declared.Here.{Here}
-use Rattle.substream.specs.declared.Step.{Step}
-use Rattle.substream.specs.declared.Step.the-variants.{More, Open, Close, Stop}
+use Rattle.substream.specs.declared.Step.the-variants.{Stop}
 use Rattle.substream.specs.declared.Ended.the-variants.{At, Refused}
-use Rattle.substream.specs.Substream.{onJudged, recordIn, onHeader, stepOf, turn, recordsFrom, substreamIn}
+use Rattle.substream.specs.Substream.{onJudged, onHeader, stepOf, turn, recordsFrom, substreamIn}
 use Rattle.substream.proofs.Laws.{Inner, Onward, from-stop, onward}
 use Rattle.reading.specs.declared.Place.{Place}
 use Rattle.reading.specs.Cells as cells
 use Rattle.reading.specs.Cells.{placeAt, otherItem, onFound, recordItem, cellItem, listedFrom}
-use Rattle.reading.specs.Reading.{CellReading, cellReading}
-use Rattle.reading.proofs.Laws.{found-absent, listed-step, record-cells}
+use Rattle.reading.proofs.Laws.{found-absent, listed-step}
 use Rattle.chain.specs.Chain.{Chain, here, on, Plain}
 use Rattle.reread.specs.Parts.{Inside, sheet, chart, plain}
-use Rattle.reread.proofs.Records.{After, inside-past}
+use Rattle.reread.proofs.Records.{inside-past}
 use Rattle.moved.proofs.Moved.{label-index}
 use Rattle.compact.proofs.Fates.{label-step, label-told, label-cell}
 

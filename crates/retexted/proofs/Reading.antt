@@ -1,20 +1,15 @@
 -- What the new stream shows: the same sheets and cells, and each text cell names the string that it named. Assumes nothing.
-use Prim.Native.Nat.{ℕ, zero, suc, _+_, _-_, _*_, _^_, _≤_, _<_, max}
+use Prim.Native.Nat.{ℕ, suc, _+_, _-_, _^_, _≤_, _<_, max}
 use mathlib.Core.Path.{_≡_, refl, sym, ap, ap₂, _∙_, subst}
-use mathlib.Core.List.{List, [], _∷_, _++_, map}
+use mathlib.Core.List.{List, [], _∷_, map}
 use mathlib.Core.Bool.{Bool, true, false}
 use native.Mathlib.Omega.{arith}
-use lib.ListN.{length, getD, take, drop, length-drop}
+use lib.ListN.{length, take, drop, length-drop}
 use lib.Seq.{getD-drop, drop-drop}
 use lib.Dec.{eqb, ltb}
-use borrow.Author.Tests.{eqb-true, eqb-false}
+use borrow.Author.Tests.{eqb-true}
 use Rattle.walk.specs.Choice.{pick}
-use Rattle.walk.proofs.Choice.{never, pick-by, pick-eq, pick-ne, pick-nlt, pick-true}
-use Rattle.walk.specs.Items.{nth}
-use Rattle.le.specs.Bytes.{byteAt, u16At}
-use Rattle.le.proofs.Laws.{Same}
-use Rattle.record.specs.declared.Header.the-variants.{Record}
-use Rattle.record.specs.Record.{headerAt}
+use Rattle.le.specs.Bytes.{byteAt}
 use Rattle.record.proofs.Laws.{whole}
 use Rattle.segments.specs.Segments.{widthOf}
 use Rattle.kept.proofs.Changed.{bytes-same}
@@ -22,31 +17,29 @@ use Rattle.cell.specs.declared.Cell.{Cell}
 use Rattle.sheetlist.specs.Agreement.{Sheet}
 use Rattle.globals.specs.declared.Globals.{Globals}
 use Rattle.globals.specs.declared.Ended.the-variants as globals
-use Rattle.globals.specs.Globals.{globalsOf}
 use Rattle.globals.specs.Sheets.{sheetsOf}
 use Rattle.workbook.specs.declared.Checked.the-variants.{Right}
 use Rattle.workbook.specs.Check.{checkedOf}
-use Rattle.reading.specs.declared.Place.{Place}
 use Rattle.reading.specs.Cells.{placeAt, listedFrom}
-use Rattle.reading.specs.Reading.{onName, nameAt, widthAt, typeAt, startBy, listedOf, rowsOf, stringsAt, onGlobals, CellReading, SheetReading, cellReading, sheetReading, readingOf}
+use Rattle.reading.specs.Reading.{onName, nameAt, widthAt, typeAt, startBy, listedOf, rowsOf, CellReading, cellReading, sheetReading, readingOf}
 use Rattle.reading.specs.Claims.{Every}
 use Rattle.chain.specs.Chain.{Nth, first, next}
 use Rattle.chain.specs.Tops.{SheetStands}
 use Rattle.chain.proofs.Chain.{every-nth}
 use Rattle.chain.proofs.Tops.{opening}
-use Rattle.chain.proofs.Sheets.{passing, sheets-stand}
+use Rattle.chain.proofs.Sheets.{sheets-stand}
 use Rattle.reread.specs.Parts.{Inside}
 use Rattle.reread.proofs.Found.{worksheet, sheet-start, listed-none}
 use Rattle.reread.proofs.Lists.{map-map}
-use Rattle.compact.specs.Entries.{Spot, spotAfter, entriesOf}
-use Rattle.compact.specs.Compact.{compactWith, placeIn, textsIn, uses}
-use Rattle.compact.specs.Parts.{Given, View, BoundMoved, BofViewed, givenOf, Made}
+use Rattle.compact.specs.Entries.{Spot, entriesOf}
+use Rattle.compact.specs.Compact.{compactWith, textsIn, uses}
+use Rattle.compact.specs.Parts.{Given, BoundMoved, BofViewed, givenOf, Made}
 use Rattle.compact.specs.Claims.{TableOf, placeOf, sheetMoved, Compacted}
 use Rattle.compact.proofs.Fates.{after-at, after-bof, after-opens}
 use Rattle.compact.proofs.Records.{spot, openedAt, bof-next}
 use Rattle.compact.proofs.Check.{compacted, made}
 use Rattle.retexted.specs.Retexted.{retextedCell, retextedSheet, indexOf, byteOf, SheetsRetexted}
-use Rattle.retexted.proofs.Cells.{Tracks, cells-read}
+use Rattle.retexted.proofs.Cells.{cells-read}
 use Rattle.retexted.proofs.Uses.{cells-used}
 use Rattle.value.specs.declared.CellValue.the-variants.{Text}
 

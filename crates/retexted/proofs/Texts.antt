@@ -1,6 +1,6 @@
 -- Each used index names the string that it named. Assumes nothing.
-use Prim.Native.Nat.{ℕ, zero, suc, _+_, _-_, _^_, _≤_, _<_}
-use mathlib.Core.Path.{_≡_, refl, sym, ap, ap₂, _∙_, subst}
+use Prim.Native.Nat.{ℕ, zero, suc, _+_, _^_, _≤_}
+use mathlib.Core.Path.{_≡_, refl, sym, ap, ap₂, _∙_}
 use mathlib.Core.List.{List, [], _∷_}
 use mathlib.Core.Bool.{Bool, true, false}
 use native.Mathlib.Omega.{arith}
@@ -8,12 +8,10 @@ use lib.ListN.{length}
 use lib.Dec.{eqb}
 use borrow.Author.Tests.{eqb-true, eqb-false}
 use Rattle.walk.specs.Choice.{pick}
-use Rattle.walk.proofs.Choice.{never, pick-eq, pick-ne}
+use Rattle.walk.proofs.Choice.{pick-eq, pick-ne}
 use Rattle.walk.specs.Items.{nth}
-use Rattle.le.specs.Bytes.{u16At}
 use Rattle.record.specs.declared.Header.the-variants.{Record}
 use Rattle.record.specs.Record.{headerAt}
-use Rattle.strings.specs.Table.{stringsOf}
 use Rattle.globals.specs.declared.Globals.{Globals}
 use Rattle.globals.specs.declared.Ended.the-variants as globals
 use Rattle.globals.specs.Globals.{globalsOf}
@@ -22,10 +20,10 @@ use Rattle.workbook.specs.Check.{checkedOf}
 use Rattle.reading.specs.Reading.{stringsAt, listedOf, onGlobals, readingOf}
 use Rattle.chain.proofs.Sheets.{passing}
 use Rattle.compact.specs.Entries.{entriesOf}
-use Rattle.compact.specs.Compact.{compactWith, textsIn, uses, usedBelow, indexIn}
+use Rattle.compact.specs.Compact.{compactWith, textsIn, uses, usedBelow}
 use Rattle.compact.specs.Claims.{Standing, TableOf, placeOf, Compacted}
 use Rattle.compact.proofs.Check.{first, compacted}
-use Rattle.compact.proofs.Places.{used-grows, index-none, index-some}
+use Rattle.compact.proofs.Places.{used-grows, index-some}
 use Rattle.cell.specs.declared.Cell.{Cell}
 use Rattle.value.specs.declared.CellValue.the-variants.{Text}
 use Rattle.chain.proofs.Chain.{every-map}

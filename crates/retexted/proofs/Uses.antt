@@ -1,11 +1,11 @@
 -- The index of each listed text cell is one of the text entries. Assumes nothing.
 use Prim.Native.Nat.{ℕ, zero, suc, _+_, _-_, _*_, _^_, _≤_, _<_}
 use mathlib.Core.Path.{_≡_, refl, sym, ap, ap₂, _∙_, subst}
-use mathlib.Core.List.{List, [], _∷_, _++_, map}
+use mathlib.Core.List.{List, [], _∷_, _++_}
 use mathlib.Core.Bool.{Bool, true, false}
 use mathlib.Core.Logic.{_⊎_, inl, inr}
 use native.Mathlib.Omega.{arith}
-use lib.ListN.{length, drop}
+use lib.ListN.{length}
 use lib.Dec.{eqb, ltb}
 use borrow.Author.Tests.{eqb-true, eqb-false, ltb-true, ltb-false}
 use Rattle.walk.specs.Choice.{pick}
@@ -18,7 +18,6 @@ use Rattle.value.specs.declared.CellValue.{CellValue}
 use Rattle.value.specs.declared.CellValue.the-variants.{Blank, Number, NotNumber, Text as TextValue, Truth, Error, Formula}
 use Rattle.value.specs.Value.{floatValue, rkValue, truthError, valueOf}
 use Rattle.le.specs.Bytes.{numAt, u32At}
-use Rattle.le.proofs.Laws.{Same}
 use Rattle.record.specs.declared.Header.{Header}
 use Rattle.record.specs.declared.Header.the-variants.{Record, Cut, End}
 use Rattle.record.specs.Record.{headerAt}
@@ -32,12 +31,11 @@ use Rattle.reading.specs.Claims.{Every}
 use Rattle.reading.proofs.Laws.{record-cells}
 use Rattle.reread.specs.Parts.{Inside}
 use Rattle.reread.proofs.Records.{After, inside-past}
-use Rattle.moved.proofs.Views.{num-drop}
 use Rattle.compact.specs.Entries.{Spot, Fate, stays, goes, table, text, sheet, fateOf, spotAfter}
 use Rattle.compact.specs.Parts.{Given, View}
-use Rattle.compact.proofs.Written.{text-same, text-number, text-used}
+use Rattle.compact.proofs.Written.{text-used}
 use Rattle.compact.proofs.Fates.{after-at, after-kind, after-plain, after-bof, after-eof, Turns, turns}
-use Rattle.compact.proofs.Records.{fits, later, entries-by, gone-next, kept-next, kept-same, kept-header, text-next, text-header}
+use Rattle.compact.proofs.Records.{fits, later, entries-by, gone-next, kept-next, text-next}
 use Rattle.retexted.proofs.Views.{every-cells}
 use Rattle.retexted.proofs.Listing.{list-skip, list-bof, list-deep, list-end, list-back, inside-there, inside-label}
 use Rattle.retexted.proofs.Cells.{gone-none, label-shape, label-one, kindOf, kind-top, kind-chart, kind-later, kind-sheet, Tracks}

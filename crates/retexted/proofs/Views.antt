@@ -1,8 +1,8 @@
 -- What a cell record reads, at any place: the drop law and the shift law of readings. Assumes nothing.
 use Prim.Native.Nat.{ℕ, zero, suc, _+_, _-_, _*_, _≤_, _<_}
-use mathlib.Core.Path.{_≡_, refl, sym, ap, ap₂, _∙_, subst}
+use mathlib.Core.Path.{_≡_, refl, sym, ap, ap₂, _∙_}
 use mathlib.Core.List.{List, [], _∷_, map}
-use mathlib.Core.Bool.{Bool, true, false}
+use mathlib.Core.Bool.{Bool, true}
 use native.Mathlib.Omega.{arith}
 use native.Mathlib.Nat.{suc-mul, mul-le-mul-right}
 use lib.ListN.{length, take, drop, length-drop as list-drop}
@@ -25,7 +25,7 @@ use Rattle.value.specs.declared.Field.{Field}
 use Rattle.value.specs.declared.Field.the-variants.{NoField, Float, RkWord, TextIndex, TruthError, StoredResult}
 use Rattle.value.specs.declared.CellValue.{CellValue}
 use Rattle.value.specs.declared.CellValue.the-variants.{Text}
-use Rattle.value.specs.Value.{widthOf, floatValue, rkValue, truthError, valueOf}
+use Rattle.value.specs.Value.{floatValue, rkValue, truthError, valueOf}
 use Rattle.cell.specs.declared.Shape.{Shape}
 use Rattle.cell.specs.declared.Shape.the-variants.{LABELSST}
 use Rattle.cell.specs.declared.Cell.{Cell}
@@ -194,9 +194,6 @@ module _ (s t : List ℕ) (p q z : ℕ) (low : p + (4 + z) ≤ length s) (low′
 
     abbrev x : List ℕ
     x = drop p s
-
-    abbrev y : List ℕ
-    y = drop q t
 
     abbrev nth : ℕ → Cell
     nth k = cellOf (drop p s) (fieldOf (shapeOf ty)) 0 k

@@ -1,5 +1,5 @@
 -- The reading of a stream with other text indices, and the claims.
-use Prim.Native.Nat.{ℕ, zero, suc, _+_, _<_, _≤_, _^_}
+use Prim.Native.Nat.{ℕ, _+_, _≤_, _^_}
 use mathlib.Core.Path.{_≡_}
 use mathlib.Core.List.{List, [], _∷_, map}
 use mathlib.Core.Bool.{true}
@@ -16,7 +16,7 @@ use Rattle.workbook.specs.Check.{checkedOf}
 use Rattle.cell.specs.declared.Cell.{Cell}
 use Rattle.sheetlist.specs.Agreement.{Sheet}
 use Rattle.globals.specs.Sheets.{sheetsOf}
-use Rattle.reading.specs.Reading.{CellReading, SheetReading, Reading, listedOf, stringsAt, readingOf}
+use Rattle.reading.specs.Reading.{CellReading, SheetReading, listedOf, stringsAt, readingOf}
 use Rattle.chain.specs.Chain.{Every, Nth}
 use Rattle.compact.specs.Entries.{entriesOf}
 use Rattle.compact.specs.Compact.{byteIn, textsIn, uses, indexIn, compactWith}

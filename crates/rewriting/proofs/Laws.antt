@@ -1,24 +1,20 @@
 -- The functions' laws. Assumes nothing.
-use Prim.Native.Nat.{ℕ, zero, suc, _+_, _-_, _*_, _/_, _^_, _≤_, _<_}
-use mathlib.Core.Path.{_≡_, refl, sym, ap, ap₂, _∙_, subst}
-use mathlib.Core.List.{List, [], _∷_, _++_, append-assoc, append-nil}
-use mathlib.Core.Bool.{Bool, true, false}
+use Prim.Native.Nat.{ℕ, _+_, _-_, _*_, _/_, _≤_, _<_}
+use mathlib.Core.Path.{_≡_, refl, ap, _∙_}
+use mathlib.Core.List.{List}
+use mathlib.Core.Bool.{false}
 use native.Mathlib.Omega.{arith}
 use native.Mathlib.Nat.{le-trans, mul-le-mul-right, div-mul-le-self, div-lt-iff-lt-mul}
-use lib.ListN.{length, getD, set, take, drop, length-set}
-use lib.Seq.{sets, length-sets, drop-cons, drop-length, take-suc-set, take-length}
-use lib.Dec.{ltb, leb, eqb}
-use borrow.Author.Tests.{eq-eqb, ne-eqb}
-use Rattle.walk.specs.Choice.{pick}
-use Rattle.walk.proofs.Choice.{pick-any, pick-le, pick-nle, pick-lt, pick-nlt, pick-eq, pick-ne}
+use lib.ListN.{length}
+use lib.Seq.{sets, length-sets}
+use Rattle.walk.proofs.Choice.{pick-any, pick-le, pick-nle, pick-lt, pick-nlt}
 use Rattle.le.specs.Bytes.{u32At, bytesOf}
 use Rattle.compact.specs.Entries as entries
-use Rattle.compact.specs.Entries.{Entry, entriesOf}
-use Rattle.spots.specs.declared.Spot.{Spot}
+use Rattle.compact.specs.Entries.{entriesOf}
 use Rattle.spots.specs.declared.Fate.{Fate}
 use Rattle.spots.specs.declared.Fate.the-variants.{Stays, Goes, Table, Text, Sheet}
 use Rattle.spots.specs.Parts.{fated}
-use Rattle.edits.specs.Edited.{Change, edited, textChange, sheetChange, Roomy, placeFor}
+use Rattle.edits.specs.Edited.{textChange, sheetChange, Roomy, placeFor}
 use Rattle.edits.proofs.Editing.{Keeps, Editing, editing-start}
 use Rattle.flags.specs.Flags.{setBelow}
 use Rattle.rewriting.specs.Ranks.{rankIn}

@@ -1,13 +1,12 @@
 -- New places kept in words, and found again. Assumes nothing.
-use Prim.Native.Nat.{ℕ, zero, suc, _+_, _-_, _*_, _/_, _%_, _≤_, _<_}
+use Prim.Native.Nat.{ℕ, _+_, _-_, _/_, _%_, _≤_, _<_}
 use mathlib.Core.Path.{_≡_, refl, sym, ap, _∙_, subst}
-use mathlib.Core.List.{List, [], _∷_}
+use mathlib.Core.List.{List}
 use mathlib.Core.Bool.{Bool, true, false}
 use native.Mathlib.Omega.{arith}
 use lib.ListN.{length, getD, set, length-set}
 use lib.Seq.{getD-set-same, getD-set-other}
-use lib.Dec.{eqb, leb}
-use lib.Arith.{digits-div, digits-mod}
+use lib.Dec.{eqb}
 use borrow.Author.Tests.{eqb-true, eqb-false}
 use Rattle.walk.specs.Choice.{pick}
 use Rattle.walk.specs.Items.{Item, onto}
@@ -15,15 +14,15 @@ use Rattle.record.specs.declared.Header.{Header}
 use Rattle.record.specs.declared.Header.the-variants as header
 use Rattle.record.specs.Record.{headerAt}
 use Rattle.compact.specs.Entries as entries
-use Rattle.compact.specs.Entries.{Entry, inGlobals, inLater, fateOf, levelAfter, spotAfter, recordItem, restItem, onHeader, entryItem, entriesFrom, entriesOf}
+use Rattle.compact.specs.Entries.{Entry, fateOf, levelAfter, spotAfter, recordItem, restItem, onHeader, entryItem, entriesFrom, entriesOf}
 use Rattle.compact.specs.Compact.{placeIn}
 use Rattle.compact.proofs.Entries.{entries-step}
 use Rattle.spots.specs.declared.Spot.{Spot}
 use Rattle.spots.specs.declared.Fate.{Fate}
 use Rattle.spots.specs.declared.Step.{Step}
-use Rattle.spots.specs.declared.Step.the-variants.{Record, Rest, End}
+use Rattle.spots.specs.declared.Step.the-variants.{Record, End}
 use Rattle.spots.specs.Parts.{spotOf, itemOf, sizeOf, Ready, Placed}
-use Rattle.spots.proofs.Place.{Going, going-less, going-sum, going-next}
+use Rattle.spots.proofs.Place.{Going, going-sum, going-next}
 use Rattle.marking.proofs.Walking.{ahead-are}
 use Rattle.edits.specs.Edited.{placeFor}
 use Rattle.edits.proofs.Editing.{place-by}
@@ -88,20 +87,6 @@ module _ (s : List ℕ) (n : ℕ) (w : Spot) (q : ℕ) (g : Reached s n w q) whe
 -- ---- words
 abbrev Word : List ℕ → ℕ → ℕ → Type 0
 Word s n x = Reached s n (top (x / 4294967296)) (x % 4294967296)
-
-pub slot-place : (at q : ℕ) → q < 4294967296 → (at * 4294967296 + q) / 4294967296 ≡ at
-slot-place at q h = digits-div at h
-
-pub slot-new : (at q : ℕ) → q < 4294967296 → (at * 4294967296 + q) % 4294967296 ≡ q
-slot-new at q h = digits-mod at h
-
-pub slot-small : (at q : ℕ) → at < 4294967296 → q < 4294967296 → at * 4294967296 + q < 18446744073709551616
-slot-small at q a b = omega arith
-
-pub slot-product : (at : ℕ) → at < 4294967296 → at * 4294967296 < 18446744073709551616
-slot-product at a = omega arith
-
-pub ruleset slot-laws = (slot-place, slot-new, slot-small, slot-product)
 
 slots-start : (s : List ℕ) (n : ℕ) (l : List ℕ) → length s ≤ 16777216 → n ≤ 16777216 → 0 < length l → getD l 0 0 ≡ 0 → Slots s n 1 l
 slots-start s n l a b h e = record {
@@ -202,9 +187,6 @@ seek-start l count p a b e = record { long = b; below = omega arith; apart = a; 
 module _ (l : List ℕ) (count p low high : ℕ) (g : Seeking l count p low high) where
   pub seek-apart : low ≤ high
   seek-apart = let a = g .apart in omega arith
-
-  pub seek-sum : low + (high - low) / 2 < 18446744073709551616 → low + (high - low) / 2 < 18446744073709551616
-  seek-sum h = h
 
   pub seek-found : low < count
   seek-found = let a = g .apart in let b = g .below in omega arith

@@ -1,18 +1,17 @@
 -- The laws of a scan, with what a call gave as the proofs have it, and what a scanned record says of the listing. Assumes nothing.
 use Prim.Native.Nat.{ℕ, _+_, _^_, _≤_, _<_}
-use mathlib.Core.Path.{_≡_, refl, sym, ap, _∙_, subst}
+use mathlib.Core.Path.{_≡_, refl, sym, ap, _∙_}
 use mathlib.Core.List.{List, [], _++_}
-use mathlib.Core.Bool.{Bool}
 use native.Mathlib.Omega.{arith}
 use lib.Dec.{eqb}
 use lib.ListN.{length}
 use borrow.Author.Tests.{eqb-true, eqb-false}
 use Rattle.walk.proofs.Choice.{pick-any, pick-by, pick-eq, pick-ne}
-use Rattle.walk.specs.Items.{Item, gives, skips, ends, onto}
+use Rattle.walk.specs.Items.{Item, skips, ends, onto}
 use Rattle.record.specs.declared.Header.{Header}
 use Rattle.record.specs.declared.Header.the-variants.{Record, Cut, End}
 use Rattle.record.specs.Record.{headerAt}
-use Rattle.record.proofs.Laws.{Whole, whole}
+use Rattle.record.proofs.Laws.{whole}
 use Rattle.cell.specs.declared.Cell.{Cell}
 use Rattle.cell.specs.Cells.{shapeOf, rowAt, firstAt, countOf, cellsOf}
 use Rattle.cell.proofs.Sizes.{count-room}

@@ -1,13 +1,13 @@
 -- The laws of the slots, and what each pass keeps, over the two lists. Assumes nothing.
 use Prim.Native.Nat.{ℕ, zero, suc, _+_, _-_, _*_, _/_, _%_, _≤_, _<_}
-use mathlib.Core.Path.{_≡_, refl, sym, ap, _∙_, subst}
+use mathlib.Core.Path.{_≡_, refl, sym, ap, _∙_}
 use mathlib.Core.Bool.{Bool, true, false, _&&_, _||_, not}
 use mathlib.Core.List.{List, [], _∷_}
 use mathlib.Core.Logic.{_⊎_, inl, inr, ⊎-elim}
 use native.Mathlib.Omega.{arith}
 use lib.ListN.{length, getD, set, replicate, length-replicate}
 use lib.Seq.{getD-set-same, getD-set-other}
-use lib.Dec.{ltb, leb, eqb}
+use lib.Dec.{ltb, eqb}
 use borrow.Author.Tests.{eqb-true, eqb-false, ltb-true, ltb-false, eq-eqb, ne-eqb, lt-ltb, le-ltb, not-true, not-false}
 use Rattle.walk.specs.Choice.{pick}
 use Rattle.walk.proofs.Choice.{pick-any}
@@ -484,13 +484,6 @@ unfolding agreementOf judged
 order-done sheets bofs p inv = left-done sheets bofs (inv .leaving) ∙ inv .same (claimed sheets bofs)
 
 module _ (sheets : List Sheet) (bofs rest : List Bof) (p k : ℕ) where
-  pub order-left : Ordered sheets [] bofs (record { start = p; kind = k } ∷ rest) p → Disagree p ≡ agreementOf sheets bofs
-  unfolding agreementOf judged named
-  order-left inv =
-      let free : named (inv .earlier) p ≡ false = inv .below p (omega arith) in
-      let none : named sheets p ≡ false = sym (rw free at (inv .names p)) in
-      left-free sheets bofs rest p k (inv .leaving) none ∙ inv .same (claimed sheets bofs)
-
   module _ (more : List Sheet) (o x l : ℕ) (inv : Ordered sheets (record { header = o; position = x; kind = l } ∷ more) bofs (record { start = p; kind = k } ∷ rest) p) (here : x ≡ p) (kind : l ≡ k) where
     abbrev this : Sheet
     this = record { header = o; position = x; kind = l }

@@ -1,9 +1,9 @@
 -- What the table of slots says, and what each pass over it keeps. Nothing here is part of the public promise.
-use Prim.Native.Nat.{ℕ, _+_, _-_, _*_, _/_, _%_, _≤_, _<_}
+use Prim.Native.Nat.{ℕ, _+_, _-_, _*_, _/_, _%_, _≤_}
 use mathlib.Core.Path.{_≡_}
 use mathlib.Core.List.{List, [], _∷_}
-use mathlib.Core.Bool.{Bool, true, false, _&&_, _||_, not}
-use lib.ListN.{length, getD}
+use mathlib.Core.Bool.{Bool, true, _&&_, _||_, not}
+use lib.ListN.{getD}
 use lib.Dec.{eqb, ltb}
 use Rattle.walk.specs.Choice.{pick}
 use Rattle.sheetlist.specs.Agreement.{Sheet, Bof, starts, named, right}

@@ -1,21 +1,20 @@
 -- The laws of the entries as the code meets them. Assumes nothing.
-use Prim.Native.Nat.{ℕ, zero, suc, _+_, _-_, _*_, _≤_, _<_}
-use mathlib.Core.Path.{_≡_, refl, sym, ap, _∙_}
-use mathlib.Core.List.{List, [], _∷_}
+use Prim.Native.Nat.{ℕ, _+_, _-_, _*_, _≤_}
+use mathlib.Core.Path.{_≡_, sym, ap, _∙_}
+use mathlib.Core.List.{List}
 use native.Mathlib.Omega.{arith}
-use native.Mathlib.Nat.{add-assoc}
 use lib.ListN.{length, getD, List·getD-eq-default}
-use Rattle.le.specs.Bytes.{byteAt, numAt}
+use Rattle.le.specs.Bytes.{numAt}
 use Rattle.substream.specs.Substream.{kindAt}
-use mathlib.Core.Bool.{Bool, true, false}
+use mathlib.Core.Bool.{Bool, false}
 use lib.Dec.{eqb}
 use Rattle.walk.specs.Choice.{pick}
 use Rattle.walk.proofs.Choice.{pick-eq, pick-ne, refl′}
-use Rattle.walk.specs.Items.{Item, gives, ends}
+use Rattle.walk.specs.Items.{Item, gives}
 use Rattle.record.specs.declared.Header.{Header}
 use Rattle.record.specs.declared.Header.the-variants.{Record}
 use Rattle.record.specs.Record.{headerAt}
-use Rattle.compact.specs.Entries.{Spot, Fate, Entry, text, stays, inLater, fateOf, parts, levelAfter, spotAfter, recordItem, restItem, onHeader, entryItem}
+use Rattle.compact.specs.Entries.{Spot, Fate, Entry, text, stays, inLater, fateOf, parts, levelAfter, spotAfter, recordItem, onHeader, entryItem}
 
 -- a byte past the end counts as 0
 pub byte-out : (s : List ℕ) (i : ℕ) → length s ≤ i → 0 ≡ getD s i 0

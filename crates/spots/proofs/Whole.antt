@@ -1,8 +1,8 @@
 -- All that is written is the new place of the stream's end. Assumes nothing.
-use Prim.Native.Nat.{ℕ, zero, suc, _+_, _-_, _≤_, _<_}
+use Prim.Native.Nat.{ℕ, _+_, _-_, _≤_, _<_}
 use mathlib.Core.Path.{_≡_, refl, sym, ap, _∙_}
 use mathlib.Core.List.{List, [], _∷_, _++_}
-use mathlib.Core.Bool.{Bool, true, false}
+use mathlib.Core.Bool.{false}
 use native.Mathlib.Omega.{arith}
 use lib.ListN.{length, length-append}
 use lib.Dec.{leb}
@@ -18,8 +18,7 @@ use Rattle.chain.proofs.Chain.{Keeps, collect-every}
 use Rattle.compact.specs.Entries.{Spot, Entry, recordItem, restItem, onHeader, entryItem, entriesFrom, start, entriesOf}
 use Rattle.compact.specs.Compact.{newBytes, written, newSize, placeIn, indexIn, compactWith}
 use Rattle.compact.proofs.Written.{new-size}
-use Rattle.spots.specs.declared.Spot as declared
-use Rattle.spots.specs.Parts.{Ready, Placed, LengthOf}
+use Rattle.spots.specs.Parts.{Placed, LengthOf}
 
 module _ (s : List ℕ) where
   abbrev Lies : Entry → Type 0
@@ -62,13 +61,8 @@ pub length-is : (s T : List ℕ) → placeIn T (entriesOf s) (length s) ≡ leng
 unfolding compactWith
 length-is s T = all-written s T (indexIn s T (entriesOf s)) (placeIn T (entriesOf s)) (entriesOf s) (entries-lie s start)
 
-pub start-ready : (s : List ℕ) (n : ℕ) → (length s ≤ 16777216) × (n ≤ 16777216) → Ready s (record { at = 0; level = 0; kind = 0; gone = false }) 0 n
-start-ready s n h = record { short = h .0; table = h .1; within = omega arith; level = omega arith; place = omega arith }
-
 pub whole-length : (s : List ℕ) (n p r : ℕ) → p ≡ length s → Placed s (record { at = 0; level = 0; kind = 0; gone = false }) 0 n p r → LengthOf s n r
 whole-length s n p r e h T i =
     let a = h T i in
     let b : placeIn T (entriesOf s) p ≡ length (compactWith s T) = ap (placeIn T (entriesOf s)) e ∙ length-is s T in
     omega arith
-
-pub ruleset length-laws = (start-ready, whole-length)

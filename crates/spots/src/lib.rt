@@ -61,7 +61,7 @@ fn in_later(kind: u16, id: u16) -> Fate
     Fate::Stays
 }
 
-pub fn fate_of(w: Spot, id: u16) -> Fate
+fn fate_of(w: Spot, id: u16) -> Fate
     ensures { λ r. ⌜ fated r ≡ fateOf (spotOf w) id ⌝ }
 {
     if id == 0x003C {

@@ -360,9 +360,6 @@ module _ (s : List ℕ) (p e : ℕ) (r : Strings) (is : r ≡ answerOf (tableOf 
   pub checked-end : accepted .after .end ≡ end
   checked-end = let z = answer-is in cc
 
-  pub checked-string : (i : ℕ) → i < n → i < length (placesOf s p e)
-  checked-string i h = let z = checked-count in omega arith
-
   module _ (low : p + 4 ≤ e) (within : e ≤ length s) where
     checked-reach : Within s (first p e) (got (placesOf s p e) (accepted .after))
     checked-reach =
@@ -375,8 +372,6 @@ module _ (s : List ℕ) (p e : ℕ) (r : Strings) (is : r ≡ answerOf (tableOf 
 
     pub checked-within : end ≤ length s
     checked-within = let z = checked-end in let w = checked-reach .0 .1 in omega arith
-
-pub ruleset checked-laws = (checked-count, checked-string, checked-low, checked-within)
 
 -- since it has a string i
 accepted-string : (s : List ℕ) (p e i : ℕ) → i < length (placesOf s p e) → Accepted s p e

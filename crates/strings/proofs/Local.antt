@@ -192,6 +192,3 @@ module _ (s s′ : List ℕ) (len : length s ≡ length s′) (p e : ℕ) (withi
       let i = r .long in
       let h : map (unitsAt s) l ≡ map (unitsAt s′) l = subst (Alike s s′ len p (c .end) same) (r .read) (alike s s′ len p (c .end) same (u32At s (p + 8)) (first p e) (omega arith, within) (omega arith)) (omega arith) in
       ap (λ (x : Got (List Cursor)). map (unitsAt s) (listOf x)) is ∙ h ∙ ap (λ (x : Got (List Cursor)). map (unitsAt s′) (listOf x)) (sym table-same)
-
-  pub units-same : (i : ℕ) → unitsOf s p e i ≡ unitsOf s′ p e i
-  units-same i = sym (strings-at s p e i) ∙ ap (λ (x : List (List ℕ)). getD x i []) strings-same ∙ strings-at s′ p e i

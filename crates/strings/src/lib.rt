@@ -290,7 +290,7 @@ pub fn fetch_at(s: &[u8], d: Cursor, buf: &mut [u16]) -> Fetched
 }
 
 // The place of string i of the table whose SST has its header at p and ends at e: a table that has it refuses nothing on the way there.
-pub fn place_at(s: &[u8], p: usize, e: usize, i: usize) -> Cursor
+fn place_at(s: &[u8], p: usize, e: usize, i: usize) -> Cursor
     requires { ⌜ (p + 4 ≤ e) × (e ≤ length (now s)) × (i < length (placesOf (now s) p e)) ⌝ }
     ensures { λ r. ⌜ r ≡ placeOf (now (s .entry)) p e i ⌝ }
 {

@@ -9,7 +9,7 @@ use lib.Dec.{leb, eqb}
 use borrow.Author.Tests.{eq-eqb, ne-eqb, eqb-true, leb-true}
 use Rattle.walk.specs.Choice.{pick}
 use Rattle.walk.proofs.Choice.{never, pick-any, pick-by, pick-eq, pick-ne, pick-true, pick-false}
-use Rattle.walk.specs.Walk.{Next, more, stop, run}
+use Rattle.walk.specs.Walk.{Next, more, stop}
 use Rattle.walk.proofs.Walk.{run-more, run-stop, run-keeps}
 use Rattle.record.specs.declared.Header.{Header}
 use Rattle.record.specs.declared.Header.the-variants.{Record, Cut, End}

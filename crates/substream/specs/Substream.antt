@@ -1,7 +1,7 @@
 -- The records of one substream after the globals, in stream order, the first fault winning.
 use Prim.Native.Nat.{ℕ, zero, suc, _+_, _-_}
 use mathlib.Core.List.{List}
-use mathlib.Core.Bool.{Bool, true, false, _&&_}
+use mathlib.Core.Bool.{Bool, true, false}
 use lib.ListN.{length}
 use lib.Dec.{leb, eqb}
 use Rattle.walk.specs.Choice.{pick}

@@ -9,11 +9,11 @@ use Rattle.walk.specs.Choice.{pick}
 use Rattle.segments.specs.declared.Cursor.{Cursor}
 use Rattle.segments.specs.declared.Moved.{Moved}
 use Rattle.segments.specs.Segments.{Got, got, refused, then, push}
-use Rattle.segments.specs.Parts.{Inside, ends, moved, Passes}
+use Rattle.segments.specs.Parts.{Inside, ends, Passes}
 use Rattle.strings.specs.Table.{strings, stringAt, nextPlace}
 use Rattle.strings.proofs.Laws.{strings-inside}
 use Rattle.tabletexts.specs.Texts.{Text, kept}
-use Rattle.tabletexts.specs.Written.{Piece, piecesOf}
+use Rattle.tabletexts.specs.Written.{piecesOf}
 use Rattle.tablewriter.specs.declared.Out.{Out}
 use Rattle.tablewriter.specs.Writing.{Wrote, state, wrote, Tidy, Long, textsFrom}
 use Rattle.tablewriter.proofs.Parts.{tidy-after}
@@ -21,7 +21,7 @@ use Rattle.tablewriter.proofs.Many.{wrote-length}
 use Rattle.tablesize.specs.declared.Span.{Span}
 use Rattle.tablesize.specs.Sizing.{sized, Counted}
 use Rattle.tablesize.proofs.Counting.{counted-by}
-use Rattle.tableclaims.proofs.Claims.{Chunks, chunks, chunk-sized, chunk-wrote, chunk-long, chunk-long-2}
+use Rattle.tableclaims.proofs.Claims.{chunks, chunk-sized, chunk-wrote, chunk-long, chunk-long-2}
 use Rattle.compact.specs.Entries.{entriesOf}
 use Rattle.compact.specs.Compact.{textsIn, uses, usedBelow}
 use Rattle.newtable.specs.NewTable.{marksFrom}
@@ -140,9 +140,6 @@ module _ (s : List ℕ) (base k m : ℕ) (c d : Cursor) (passes : Passes (string
 
   second-is : kept ns (textsFrom s (length ns) d) ≡ chosen s (base + k) m d
   second-is = ap (λ (j : ℕ). kept ns (textsFrom s j d)) second-length
-
-  pub two-first : Passes (strings s k c)
-  two-first = subst (λ (j : ℕ). Passes (strings s j c)) first-length (chunks s ms ns c d both-pass first-to .first-passes)
 
   pub two-second : Passes (strings s m d)
   two-second = subst (λ (j : ℕ). Passes (strings s j d)) second-length (chunks s ms ns c d both-pass first-to .second-passes)

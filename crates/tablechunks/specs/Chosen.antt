@@ -1,10 +1,8 @@
 -- The strings that are used, from a cursor and an index on.
-use Prim.Native.Nat.{ℕ, _+_, _<_, _≤_}
-use mathlib.Core.Path.{_≡_}
+use Prim.Native.Nat.{ℕ}
 use mathlib.Core.List.{List}
 use Rattle.segments.specs.declared.Cursor.{Cursor}
 use Rattle.tabletexts.specs.Texts.{Text, kept}
-use Rattle.tabletexts.specs.Written.{Piece, piecesOf}
 use Rattle.tablewriter.specs.Writing.{textsFrom}
 use Rattle.compact.specs.Entries.{entriesOf}
 use Rattle.compact.specs.Compact.{textsIn}

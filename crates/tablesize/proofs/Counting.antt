@@ -1,19 +1,19 @@
 -- The laws of whole strings and of the table as they are counted. Assumes nothing.
-use Prim.Native.Nat.{ℕ, zero, suc, _+_, _-_, _*_, _≤_, _<_}
+use Prim.Native.Nat.{ℕ, _+_, _-_, _≤_, _<_}
 use mathlib.Core.Path.{_≡_, refl, sym, ap, ap₂, _∙_, subst}
-use mathlib.Core.List.{List, [], _∷_, _++_}
+use mathlib.Core.List.{List, [], _∷_}
 use mathlib.Core.Bool.{Bool, true, false}
 use native.Mathlib.Omega.{arith}
-use lib.ListN.{length, drop}
-use lib.Dec.{ltb, eqb}
+use lib.ListN.{length}
+use lib.Dec.{ltb}
 use borrow.Author.Tests.{ltb-false, ltb-true}
 use Rattle.walk.specs.Choice.{pick}
-use Rattle.walk.proofs.Choice.{pick-by, pick-true, pick-false, pick-lt, pick-nlt, pick-eq, pick-ne}
+use Rattle.walk.proofs.Choice.{pick-by, pick-true, pick-false, pick-nlt, pick-eq, pick-ne}
 use Rattle.le.specs.Bytes.{byteAt}
 use Rattle.segments.specs.declared.Cursor.{Cursor}
 use Rattle.segments.specs.declared.Moved.{Moved}
 use Rattle.segments.specs.Segments.{Got, got, refused, then, listOf, items}
-use Rattle.segments.specs.Parts.{Inside, ends, moved, Passes}
+use Rattle.segments.specs.Parts.{ends, moved, Passes}
 use Rattle.segments.proofs.Laws.{Count, count-items}
 use Rattle.strings.specs.declared.Head.{Head}
 use Rattle.strings.specs.declared.HeadRead.{HeadRead}

@@ -1,38 +1,28 @@
 -- The laws that the functions' proofs cite, with their premises as the calls give them. Assumes nothing.
 use Prim.Native.Nat.{ℕ, zero, suc, _+_, _-_, _*_, _≤_, _<_}
-use mathlib.Core.Path.{_≡_, refl, sym, ap, ap₂, _∙_, subst}
+use mathlib.Core.Path.{_≡_, refl, sym, ap, ap₂, _∙_}
 use mathlib.Core.List.{List, [], _∷_, _++_}
-use mathlib.Core.Bool.{Bool, true, false}
+use mathlib.Core.Bool.{Bool, true}
 use native.Mathlib.Omega.{arith}
 use native.Mathlib.Nat.{mul-le-mul-right, zero-mul, suc-mul}
 use lib.ListN.{length}
-use lib.Dec.{ltb, eqb}
-use borrow.Author.Tests.{ltb-false, ltb-true, lt-ltb, le-ltb}
 use mir.Val.{Fits as FitsIn}
 use mir.Syntax.{w64}
-use Rattle.walk.specs.Choice.{pick}
-use Rattle.walk.proofs.Choice.{pick-by, pick-true, pick-false, pick-lt, pick-nlt, pick-eq, pick-ne}
-use Rattle.le.specs.Bytes.{byteAt, numAt, bytesOf}
+use Rattle.walk.proofs.Choice.{pick-lt, pick-nlt}
+use Rattle.le.specs.Bytes.{bytesOf}
 use Rattle.le.proofs.Laws.{length-bytes}
 use Rattle.segments.specs.declared.Cursor.{Cursor}
-use Rattle.segments.specs.declared.Moved.{Moved}
-use Rattle.segments.specs.Segments.{Got, got, refused, then, listOf, on, items}
-use Rattle.segments.specs.Parts.{Inside, ends, moved, Passes}
+use Rattle.segments.specs.Segments.{Got, got, refused, listOf, items}
+use Rattle.segments.specs.Parts.{Passes}
 use Rattle.segments.proofs.Laws.{Count, count-items}
 use Rattle.strings.specs.declared.Head.{Head}
-use Rattle.strings.specs.declared.HeadRead.{HeadRead}
-use Rattle.strings.specs.Table.{head, nextPlace, strings}
-use Rattle.strings.specs.Parts.{headRead}
-use Rattle.tabletexts.specs.Texts.{Text, textOf, textAt, theText, kept}
-use Rattle.tabletexts.specs.Written.{Piece, opens, roomAfter, laidSize, openingOf, pieceOf, itemPieces, wideBit, textPieces, piecesOf, tableSize}
+use Rattle.tabletexts.specs.Written.{Piece, openingOf, itemPieces, wideBit}
 use Rattle.tabletexts.proofs.Table.{wide-bit}
-use Rattle.tablewriter.specs.Writing.{startSize, startBody, plainPiece, charPieces, restAt, restPieces, textsFrom, nextText, markedPieces, leftPieces}
+use Rattle.tablewriter.specs.Writing.{startSize, startBody, charPieces}
 use Rattle.tablewriter.proofs.Laws.{nothing-left}
 use Rattle.tablewriter.proofs.Starts.{start-length}
-use Rattle.tablewriter.proofs.Whole.{text-pieces}
-use Rattle.tablewriter.proofs.Many.{left-are}
 use Rattle.tablesize.specs.declared.Span.{Span}
-use Rattle.tablesize.specs.Sizing.{most, plus, sizedBy, sizedItems, sized, Counted}
+use Rattle.tablesize.specs.Sizing.{most, plus, sizedBy, sizedItems, sized}
 
 -- ---- a piece
 module _ (g : Span) (k n : ℕ) where

@@ -103,7 +103,7 @@ fn size_rest(h: Head, g: Span) -> Span
 }
 
 // The string whose head stands at d, none of it refused.
-pub fn size_text(s: &[u8], d: Cursor, g: Span) -> Span
+fn size_text(s: &[u8], d: Cursor, g: Span) -> Span
     requires { ⌜ Inside (now s) d × Passes (textAt (now s) d) ⌝ }
     ensures { λ r. ⌜ r ≡ sized g (textPieces (theText (textAt (now (s .entry)) d)) []) ⌝ }
 {

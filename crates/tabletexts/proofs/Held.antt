@@ -1,21 +1,21 @@
 -- What is read from bytes a table can hold. Assumes nothing.
-use Prim.Native.Nat.{ℕ, zero, suc, _+_, _-_, _*_, _/_, _%_, _^_, _≤_, _<_}
-use mathlib.Core.Path.{_≡_, refl, sym, ap, ap₂, _∙_, subst}
-use mathlib.Core.List.{List, [], _∷_, _++_, map}
+use Prim.Native.Nat.{ℕ, zero, suc, _+_, _*_, _^_, _≤_, _<_}
+use mathlib.Core.Path.{_≡_, refl, sym, subst}
+use mathlib.Core.List.{List, [], _∷_, map}
 use mathlib.Core.Bool.{Bool, true, false}
 use native.Mathlib.Omega.{arith}
 use lib.ListN.{length}
-use lib.Dec.{ltb, eqb}
+use lib.Dec.{eqb}
 use Rattle.walk.specs.Choice.{pick}
 use Rattle.walk.proofs.Choice.{pick-any}
-use Rattle.le.specs.Bytes.{byteAt, numAt, u16At, u32At}
+use Rattle.le.specs.Bytes.{byteAt, numAt}
 use Rattle.segments.specs.declared.Cursor.{Cursor}
-use Rattle.segments.specs.Segments.{Got, got, refused, then, push, on, nextSegment, need, widthOf, enter, room, items}
+use Rattle.segments.specs.Segments.{Got, got, refused, then, push, on, nextSegment, need, enter, room, items}
 use Rattle.segments.proofs.Local.{need-is}
 use Rattle.segments.proofs.Laws.{Count, count-items}
 use Rattle.strings.specs.declared.Head.{Head}
-use Rattle.strings.specs.Table.{phoneticBit, richBit, headSize, runsAt, phoneticAt, headAt, startSize, head, placesOf}
-use Rattle.tabletexts.specs.Texts.{Text, textOf, textAt, nothing, theText, textsOf, Below, Holds, AllHold, keepIf, kept}
+use Rattle.strings.specs.Table.{phoneticBit, richBit, headSize, runsAt, phoneticAt, headAt, startSize, head}
+use Rattle.tabletexts.specs.Texts.{Text, textOf, textAt, theText, Below, Holds, AllHold, keepIf, kept}
 
 -- a stream of bytes
 abbrev pub Bytes : List ℕ → Type 0

@@ -1,27 +1,24 @@
 -- A table that was written is read as it was. Assumes nothing.
-use Prim.Native.Nat.{ℕ, zero, suc, _+_, _-_, _*_, _/_, _%_, _^_, _≤_, _<_}
+use Prim.Native.Nat.{ℕ, _+_, _-_, _^_, _≤_, _<_}
 use mathlib.Core.Path.{_≡_, refl, sym, ap, ap₂, _∙_, subst}
 use mathlib.Core.List.{List, [], _∷_, _++_, append-assoc}
 use mathlib.Core.Bool.{Bool, true, false}
 use native.Mathlib.Omega.{arith}
-use lib.ListN.{length, getD, drop, length-append, length-drop}
-use lib.Dec.{ltb, eqb}
-use borrow.Author.Tests.{ltb-false, ltb-true}
-use Rattle.walk.specs.Choice.{pick}
-use Rattle.walk.proofs.Choice.{pick-by, pick-eq, pick-ne, pick-lt, pick-nlt, pick-true, pick-false}
-use Rattle.le.specs.Bytes.{byteAt, numAt, u16At, u32At, bytesOf}
+use lib.ListN.{length, drop, length-append}
+use borrow.Author.Tests.{ltb-false}
+use Rattle.walk.proofs.Choice.{pick-eq, pick-ne, pick-nlt, pick-true, pick-false}
+use Rattle.le.specs.Bytes.{byteAt, numAt, u16At, bytesOf}
 use Rattle.le.proofs.Laws.{length-bytes}
-use Rattle.record.specs.declared.Header.{Header}
 use Rattle.record.specs.declared.Header.the-variants.{Record}
 use Rattle.record.specs.Record.{headerAt}
 use Rattle.record.proofs.Laws.{header-whole}
 use Rattle.segments.specs.declared.Cursor.{Cursor}
-use Rattle.segments.specs.Segments.{Got, got, refused, then, push, listOf, on, continues, segmentOf, nextSegment, filled, need, widthOf, enter, room, items}
+use Rattle.segments.specs.Segments.{Got, got, then, push, on, continues, segmentOf, nextSegment, need, widthOf, enter, room, items}
 use Rattle.segments.proofs.Local.{room-here}
 use Rattle.segments.proofs.Laws.{continues-whole}
 use Rattle.strings.specs.Table.{nextPlace}
 use Rattle.tabletexts.specs.Texts.{Below}
-use Rattle.tabletexts.specs.Written.{Piece, Laid, laidNone, put, opens, roomAfter, lay, openingOf, pieceOf, itemPieces, recordBytes, continueBytes}
+use Rattle.tabletexts.specs.Written.{Piece, Laid, put, opens, roomAfter, lay, openingOf, pieceOf, itemPieces, recordBytes, continueBytes}
 use Rattle.tabletexts.proofs.Stream.{drop-on, drop-by, left-of, byte-here, num-here}
 
 -- ---- a record that stands at p

@@ -1,12 +1,10 @@
 -- The length of a table is known before it is written; and a table inside a longer stream. Assumes nothing.
-use Prim.Native.Nat.{ℕ, zero, suc, _+_, _-_, _*_, _^_, _≤_, _<_}
-use mathlib.Core.Path.{_≡_, refl, sym, ap, ap₂, _∙_, subst}
-use mathlib.Core.List.{List, [], _∷_, _++_, append-assoc}
+use Prim.Native.Nat.{ℕ, _+_, _-_}
+use mathlib.Core.Path.{_≡_, refl}
+use mathlib.Core.List.{List, [], _∷_, _++_}
 use mathlib.Core.Bool.{Bool, true, false}
 use native.Mathlib.Omega.{arith}
-use lib.ListN.{length, drop, length-append}
-use lib.Seq.{drop-append-seam, getD-drop}
-use lib.Dec.{ltb, eqb}
+use lib.ListN.{length, length-append}
 use Rattle.walk.specs.Choice.{pick}
 use Rattle.le.specs.Bytes.{bytesOf}
 use Rattle.le.proofs.Laws.{length-bytes}
@@ -51,7 +49,3 @@ table-size total ts =
     let f = length-bytes 4 (length ts) in
     let g = laid-size (8224 - 8) (piecesOf ts) in
     omega arith
-
--- ---- with bytes before and after it
-pub table-between : (before after : List ℕ) (total : ℕ) (ts : List Text) → drop (length before) (before ++ (tableBytes total ts ++ after)) ≡ tableBytes total ts ++ after
-table-between before after total ts = drop-append-seam before (tableBytes total ts ++ after)

@@ -1,13 +1,11 @@
 -- What stands at a place of a stream, as a list that the rest of the stream begins with. Assumes nothing.
-use Prim.Native.Nat.{ℕ, zero, suc, _+_, _-_, _*_, _/_, _%_, _^_, _≤_, _<_}
-use mathlib.Core.Path.{_≡_, refl, sym, ap, ap₂, _∙_, subst}
+use Prim.Native.Nat.{ℕ, zero, suc, _+_, _-_, _/_, _%_, _^_, _<_}
+use mathlib.Core.Path.{_≡_, sym, ap, _∙_}
 use mathlib.Core.List.{List, [], _∷_, _++_}
-use native.Mathlib.Numerals.{add-one}
 use native.Mathlib.Omega.{arith}
 use lib.ListN.{length, getD, drop, length-append, length-drop}
 use lib.Seq.{drop-append-seam, drop-drop, getD-drop}
 use Rattle.le.specs.Bytes.{byteAt, numAt, bytesOf}
-use Rattle.le.proofs.Laws.{length-bytes}
 
 module _ (s : List ℕ) (p : ℕ) where
   -- past the bytes a

@@ -1,14 +1,14 @@
 -- A table that was written is read as it was: each string, and the table. Assumes nothing.
-use Prim.Native.Nat.{ℕ, zero, suc, _+_, _-_, _*_, _/_, _%_, _^_, _≤_, _<_}
+use Prim.Native.Nat.{ℕ, zero, suc, _+_, _-_, _*_, _^_, _≤_, _<_}
 use mathlib.Core.Path.{_≡_, refl, sym, ap, ap₂, _∙_, subst}
 use mathlib.Core.List.{List, [], _∷_, _++_, append-assoc, map}
 use mathlib.Core.Bool.{Bool, true, false}
 use native.Mathlib.Omega.{arith}
-use lib.ListN.{length, getD, drop, length-append, length-drop}
+use lib.ListN.{length, drop, length-append, length-drop}
 use lib.Dec.{ltb, eqb}
-use borrow.Author.Tests.{ltb-false, ltb-true, eqb-true, eqb-false}
+use borrow.Author.Tests.{ltb-false, eqb-false}
 use Rattle.walk.specs.Choice.{pick}
-use Rattle.walk.proofs.Choice.{pick-by, pick-any, pick-eq, pick-ne, pick-lt, pick-nlt, pick-true, pick-false}
+use Rattle.walk.proofs.Choice.{pick-by, pick-any, pick-nlt}
 use Rattle.le.specs.Bytes.{byteAt, numAt, u16At, u32At, bytesOf}
 use Rattle.le.proofs.Laws.{length-bytes}
 use Rattle.segments.specs.declared.Cursor.{Cursor}
@@ -17,14 +17,12 @@ use Rattle.record.specs.declared.Header.the-variants.{Record}
 use Rattle.record.specs.Record.{headerAt}
 use Rattle.segments.proofs.Local.{room-here, filled-got, Within}
 use Rattle.strings.specs.declared.Head.{Head}
-use Rattle.strings.specs.declared.Strings.{Strings}
-use Rattle.strings.specs.Table.{phoneticBit, richBit, headSize, runsAt, phoneticAt, headAt, startSize, head, rest, stringAt, unitsAt, nextPlace, strings, first, tableOf, placesOf, stringsOf, answerOf}
+use Rattle.strings.specs.Table.{phoneticBit, richBit, headSize, runsAt, phoneticAt, headAt, startSize, head, rest, stringAt, unitsAt, strings, first, tableOf, placesOf, stringsOf}
 use Rattle.strings.proofs.Local.{reads-strings}
-use Rattle.strings.proofs.Laws.{strings-count}
 use Rattle.tabletexts.specs.Texts.{Text, textOf, textAt, theText, textsOf, Below, Holds, AllHold}
-use Rattle.tabletexts.specs.Written.{Piece, Laid, laidNone, put, opens, roomAfter, lay, openingOf, pieceOf, itemPieces, wideBit, widthOfText, flagsOf, headBytes, firstBytes, later, startPiece, textPieces, piecesOf, recordBytes, continueBytes, laidOf, sstBody, tableBytes}
+use Rattle.tabletexts.specs.Written.{Piece, roomAfter, lay, itemPieces, wideBit, widthOfText, flagsOf, headBytes, firstBytes, later, startPiece, textPieces, piecesOf, recordBytes, continueBytes, laidOf, sstBody, tableBytes}
 use Rattle.tabletexts.proofs.Stream.{drop-on, drop-by, left-of, byte-here, num-here}
-use Rattle.tabletexts.proofs.Reading.{Lies, Few, Stands, plain, on-none, past, Placed, place-read, Width, need-there, ItemsRead, items-read, here-small, body-here, record-left, record-here}
+use Rattle.tabletexts.proofs.Reading.{Lies, Few, Stands, plain, on-none, past, place-read, Width, need-there, ItemsRead, items-read, here-small, body-here, record-left, record-here}
 
 pub wide-bit : (us : List ℕ) → wideBit us < 2
 unfolding wideBit
@@ -355,9 +353,6 @@ module _ (s : List ℕ) (p total : ℕ) (ts : List Text) (b : List ℕ) (low : t
   total-place : drop (p + 4) s ≡ bytesOf 4 total ++ (bytesOf 4 (length ts) ++ (laidOf ts .here ++ (continueBytes (laidOf ts .more) ++ b)))
   total-place = body-here s p 0x00fc (sstBody total ts) _ sst-small (omega arith) sst-bytes ∙ simp append-assoc
 
-  pub total-here : u32At s (p + 4) ≡ total
-  total-here = num-here s 4 total (p + 4) _ total-place low
-
   count-place : drop (p + 8) s ≡ bytesOf 4 (length ts) ++ (laidOf ts .here ++ (continueBytes (laidOf ts .more) ++ b))
   count-place = let e : p + 4 + 4 ≡ p + 8 = omega arith in ap (λ (n : ℕ). drop n s) (sym e) ∙ drop-by s (p + 4) (bytesOf 4 total) _ 4 (length-bytes 4 total) total-place
 
@@ -403,18 +398,9 @@ module _ (s : List ℕ) (p total : ℕ) (ts : List Text) (b : List ℕ) (low : t
         ∙ ap (λ (x : Got (List Cursor)). then x (λ l c. then (filled 8 s c) (λ _ d. got l d))) (read .is)
         ∙ ap (λ (x : Got Unit). then x (λ _ d. got (read .places) d)) z)))
 
-    pub table-answer : answerOf (tableOf s p tableEnd) ≡ Strings.Table (length ts) (p + length (tableBytes total ts))
-    table-answer =
-        let a : length (read .places) ≡ length ts = strings-count s (length ts) (first p tableEnd) (read .places) (read .to) (read .is) in
-        ap answerOf table-passes ∙ ap₂ Strings.Table a to-end
-
     -- and has the same strings in order, each with its runs and phonetic bytes
     pub texts-same : textsOf s p tableEnd ≡ ts
     texts-same = ap (λ (x : Got (List Cursor)). map (λ (d : Cursor). theText (textAt s d)) (listOf x)) table-passes ∙ read .texts
 
     pub units-same : stringsOf s p tableEnd ≡ map (λ (t : Text). t .units) ts
     units-same = map-units s (placesOf s p tableEnd) ∙ ap (map (λ (t : Text). t .units)) texts-same
-
-    -- written again from its own reading it is the same
-    pub written-again : tableBytes (u32At s (p + 4)) (textsOf s p tableEnd) ≡ tableBytes total ts
-    written-again = ap₂ tableBytes total-here texts-same

@@ -1,6 +1,5 @@
 -- A string of the table with all that stands with it: beside its units, bits 2 and 3 of its flags, its runs and its phonetic bytes.
 use Prim.Native.Nat.{ℕ, _+_, _*_, _^_, _<_}
-use mathlib.Core.Path.{_≡_}
 use mathlib.Core.List.{List, [], _∷_, map}
 use mathlib.Core.Bool.{Bool, true, false}
 use lib.ListN.{length}

@@ -1,19 +1,17 @@
 -- What the writer has written, piece by piece, is the table. Assumes nothing.
-use Prim.Native.Nat.{ℕ, zero, suc, _+_, _-_, _*_, _≤_, _<_}
-use mathlib.Core.Path.{_≡_, refl, sym, ap, ap₂, _∙_, subst}
+use Prim.Native.Nat.{ℕ, suc, _+_, _-_, _≤_, _<_}
+use mathlib.Core.Path.{_≡_, refl, sym, ap, _∙_, subst}
 use mathlib.Core.List.{List, [], _∷_, _++_, append-assoc}
 use mathlib.Core.Bool.{Bool, true, false}
 use native.Mathlib.Omega.{arith}
 use lib.ListN.{length, set, length-append}
 use lib.Seq.{sets, set-comm}
 use Rattle.walk.specs.Choice.{pick}
-use Rattle.walk.proofs.Choice.{pick-by}
 use Rattle.le.specs.Bytes.{bytesOf}
 use Rattle.le.proofs.Laws.{length-bytes}
 use Rattle.segments.specs.Parts.{stored}
 use Rattle.tabletexts.specs.Texts.{Text}
-use Rattle.tabletexts.specs.Written.{Piece, Laid, laidNone, put, opens, roomAfter, lay, laidSize, piecesOf, recordBytes, continueBytes, laidOf, sstBody, tableBytes, tableSize}
-use Rattle.tabletexts.proofs.Size.{laid-size}
+use Rattle.tabletexts.specs.Written.{Piece, Laid, put, opens, roomAfter, lay, laidSize, piecesOf, recordBytes, continueBytes, laidOf, sstBody, tableBytes, tableSize}
 use Rattle.tablewriter.specs.declared.Out.{Out}
 use Rattle.tablewriter.specs.Writing.{Wrote, state, closed, added, opened, step, wrote, finished, Tidy, Long, withCounts, tableStart, withTable}
 use Rattle.tablewriter.proofs.Laws.{step-is, stored-length}

@@ -1,7 +1,7 @@
 -- The laws that the functions' proofs cite, with their premises as the calls give them. Assumes nothing.
-use Prim.Native.Nat.{ℕ, zero, suc, _+_, _-_, _*_, _≤_, _<_, _^_, _%_}
-use mathlib.Core.Path.{_≡_, refl, sym, ap, ap₂, _∙_, subst}
-use mathlib.Core.List.{List, [], _∷_, _++_}
+use Prim.Native.Nat.{ℕ, zero, suc, _+_, _-_, _≤_, _<_, _^_}
+use mathlib.Core.Path.{_≡_, refl, sym, ap, _∙_, subst}
+use mathlib.Core.List.{List, [], _∷_}
 use mathlib.Core.Bool.{Bool, true, false}
 use native.Mathlib.Omega.{arith}
 use native.Mathlib.Nat.{mod-eq-of-lt}
@@ -11,7 +11,6 @@ use mir.Val.{Fits as FitsIn}
 use mir.Syntax.{w64}
 use Rattle.walk.specs.Choice.{pick}
 use Rattle.walk.proofs.Choice.{pick-any, pick-by, pick-true, pick-false, pick-lt, pick-nlt}
-use borrow.Author.Tests.{ltb-false, ltb-true}
 use Rattle.le.specs.Bytes.{byteAt, numAt, u16At, u32At, bytesOf}
 use Rattle.le.proofs.Laws.{length-bytes}
 use Rattle.segments.specs.declared.Cursor.{Cursor}
@@ -65,18 +64,6 @@ module _ (b b′ : List ℕ) (o e : Out) (is : state b′ e ≡ opened (state b 
 
   pub opened-long : length b′ ≡ length b
   opened-long = ap (λ (w : Wrote). length (w .buf)) is ∙ opened-length (state b o)
-
-module _ (b b′ : List ℕ) (o e : Out) (w n : ℕ) (is : state b′ e ≡ added (state b o) (bytesOf w n)) where
-  pub added-at : e .at ≡ o .at + w
-  unfolding added
-  added-at = ap (λ (w : Wrote). w .out .at) is ∙ ap (λ (k : ℕ). o .at + k) (length-bytes w n)
-
-  pub added-room : e .room ≡ o .room - w
-  unfolding added
-  added-room = ap (λ (w : Wrote). w .out .room) is ∙ ap (λ (k : ℕ). o .room - k) (length-bytes w n)
-
-  pub added-long : length b′ ≡ length b
-  added-long = ap (λ (w : Wrote). length (w .buf)) is ∙ added-length (state b o) (bytesOf w n)
 
 -- nothing more
 pub none : (w : Wrote) → added w [] ≡ w

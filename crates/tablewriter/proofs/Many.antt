@@ -1,17 +1,14 @@
 -- The laws of strings one after another as they are written. Assumes nothing.
-use Prim.Native.Nat.{ℕ, zero, suc, _+_, _-_, _*_, _/_, _≤_, _<_}
-use mathlib.Core.Path.{_≡_, refl, sym, ap, ap₂, _∙_, subst}
+use Prim.Native.Nat.{ℕ, suc, _+_, _-_, _*_, _/_, _≤_, _<_}
+use mathlib.Core.Path.{_≡_, refl, sym, ap, _∙_, subst}
 use mathlib.Core.List.{List, [], _∷_, _++_, append-assoc, append-nil, map}
 use mathlib.Core.Bool.{Bool, true, false}
 use native.Mathlib.Omega.{arith}
 use native.Mathlib.Nat.{div-lt-iff-lt-mul}
-use native.Mathlib.Numerals.{add-one}
-use lib.ListN.{length, getD, drop, drop-of-length-le}
-use lib.Seq.{drop-cons}
+use lib.ListN.{length}
 use lib.Dec.{eqb}
 use Rattle.walk.specs.Choice.{pick}
 use Rattle.walk.proofs.Choice.{pick-eq, pick-ne}
-use Rattle.le.specs.Bytes.{byteAt}
 use Rattle.segments.specs.declared.Cursor.{Cursor}
 use Rattle.segments.specs.declared.Moved.{Moved}
 use Rattle.segments.specs.Segments.{Got, got, refused, then, push, listOf}
@@ -26,7 +23,7 @@ use Rattle.tabletexts.specs.Texts.{Text, textAt, theText, keepIf, kept}
 use Rattle.tabletexts.specs.Written.{Piece, itemPieces, widthOfText, later, startPiece, textPieces, piecesOf}
 use Rattle.tabletexts.proofs.Table.{string-text}
 use Rattle.tablewriter.specs.declared.Out.{Out}
-use Rattle.tablewriter.specs.Writing.{Wrote, state, step, wrote, Tidy, Long, textsFrom, nextText, markedPieces, leftPieces}
+use Rattle.tablewriter.specs.Writing.{Wrote, state, step, wrote, Long, textsFrom, nextText, markedPieces, leftPieces}
 use Rattle.tablewriter.proofs.Laws.{step-is, passes-push, list-push}
 use Rattle.tablewriter.proofs.Parts.{wrote-append, long-left, long-right, tidy-after}
 

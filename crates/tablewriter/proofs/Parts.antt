@@ -1,30 +1,22 @@
 -- The laws of a string's parts as they are written. Assumes nothing.
-use Prim.Native.Nat.{ℕ, zero, suc, _+_, _-_, _*_, _≤_, _<_, _^_}
-use mathlib.Core.Path.{_≡_, refl, sym, ap, ap₂, _∙_, subst}
-use mathlib.Core.List.{List, [], _∷_, _++_, append-assoc}
+use Prim.Native.Nat.{ℕ, _+_, _-_, _≤_, _<_}
+use mathlib.Core.Path.{_≡_, refl, sym, ap, _∙_, subst}
+use mathlib.Core.List.{List, [], _∷_, _++_}
 use mathlib.Core.Bool.{Bool, true, false}
 use native.Mathlib.Omega.{arith}
-use lib.ListN.{length}
-use mir.Val.{Fits as FitsIn}
-use mir.Syntax.{w64}
-use Rattle.le.specs.Bytes.{byteAt, numAt, bytesOf}
+use Rattle.le.specs.Bytes.{numAt}
 use Rattle.segments.specs.declared.Cursor.{Cursor}
 use Rattle.segments.specs.declared.Room.{Room}
-use Rattle.segments.specs.Segments.{Got, got, refused, then, push, listOf, on, need, room, items}
+use Rattle.segments.specs.Segments.{Got, got, refused, then, listOf, on, room, items}
 use Rattle.segments.specs.Parts.{Inside, ends, roomed, Passes}
-use Rattle.segments.proofs.Local.{refused-not, need-is, Within, within-items}
-use Rattle.segments.proofs.Laws.{Count, count-items}
+use Rattle.segments.proofs.Local.{refused-not, Within, within-items}
 use Rattle.strings.specs.declared.Head.{Head}
-use Rattle.strings.specs.declared.HeadRead.{HeadRead}
-use Rattle.strings.specs.Table.{phoneticBit, richBit, startSize, headAt, headSize, head}
-use Rattle.strings.specs.Parts.{headRead}
-use Rattle.strings.proofs.Laws.{head-inside, head-some, head-small}
-use Rattle.tabletexts.specs.Texts.{Text, textOf, textAt, theText}
-use Rattle.tabletexts.specs.Written.{Piece, pieceOf, itemPieces, wideBit, flagsOf, headBytes, firstBytes, later, startPiece, textPieces, laidSize}
+use Rattle.tabletexts.specs.Texts.{Text, textOf, theText}
+use Rattle.tabletexts.specs.Written.{Piece, itemPieces, wideBit, laidSize}
 use Rattle.tabletexts.proofs.Table.{wide-bit}
 use Rattle.tablewriter.specs.declared.Out.{Out}
-use Rattle.tablewriter.specs.Writing.{Wrote, state, step, wrote, Tidy, Long, Item, newFlags, countsBody, leadBody, headBody, startBody, plainPiece, fromPieces, charPieces, restAt, restPieces}
-use Rattle.tablewriter.proofs.Laws.{one-byte, step-is, long-first, long-rest, wrote-tidy, turn-list, turn-passes, turn-ends, turn-item, turn-some, turn-few, turn-even, turn-within, turn-add, turn-inside, turn-refused, nothing-left}
+use Rattle.tablewriter.specs.Writing.{Wrote, state, step, wrote, Tidy, Long, Item, startBody, plainPiece, fromPieces, charPieces, restAt, restPieces}
+use Rattle.tablewriter.proofs.Laws.{step-is, long-first, long-rest, wrote-tidy, turn-list, turn-passes, turn-ends, turn-item, turn-within, turn-inside, nothing-left}
 
 -- ---- pieces after pieces
 pub wrote-append : (ps qs : List Piece) (w : Wrote) → wrote w (ps ++ qs) ≡ wrote (wrote w ps) qs
@@ -158,15 +150,6 @@ pub ruleset none-laws = (none-to, none-long, none-wrote)
 -- ---- some
 pub wide-low : (us : List ℕ) (wide : ℕ) → wide ≡ wideBit us → wide ≤ 1
 wide-low us wide e = let a = wide-bit us in omega arith
-
-pub wide-two : (us : List ℕ) (wide : ℕ) → wide ≡ wideBit us → 1 + wide ≤ 2
-wide-two us wide e = let a = wide-bit us in omega arith
-
-pub wide-fits : (us : List ℕ) (wide : ℕ) → wide ≡ wideBit us → FitsIn w64 (1 + wide)
-wide-fits us wide e = let a = wide-bit us in omega arith
-
-pub wide-item : (us : List ℕ) (wide : ℕ) → wide ≡ wideBit us → Item true (1 + wide)
-wide-item us wide e = let a = wide-bit us in record { some = omega arith; few = omega arith; even = λ q. omega arith; char = λ q. omega arith }
 
 pub low-item : (wide : ℕ) → wide ≤ 1 → Item true (1 + wide)
 low-item wide l = record { some = omega arith; few = omega arith; even = λ q. omega arith; char = λ q. omega arith }

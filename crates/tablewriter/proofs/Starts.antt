@@ -1,8 +1,7 @@
 -- The laws of a string's head as it is written. Assumes nothing.
-use Prim.Native.Nat.{ℕ, zero, suc, _+_, _-_, _*_, _≤_, _<_}
-use mathlib.Core.Path.{_≡_, refl, sym, ap, ap₂, _∙_, subst}
+use Prim.Native.Nat.{ℕ, suc, _+_, _-_, _*_, _≤_, _<_}
+use mathlib.Core.Path.{_≡_, refl, sym, ap, ap₂, _∙_}
 use mathlib.Core.List.{List, [], _∷_, _++_}
-use mathlib.Core.Bool.{Bool, true, false}
 use native.Mathlib.Omega.{arith}
 use lib.ListN.{length, set, length-append}
 use lib.Seq.{sets}
@@ -13,7 +12,7 @@ use Rattle.le.proofs.Laws.{length-bytes}
 use Rattle.segments.specs.Parts.{stored}
 use Rattle.strings.specs.declared.Head.{Head}
 use Rattle.strings.specs.Table.{phoneticBit, richBit}
-use Rattle.tabletexts.specs.Written.{Piece, opens, laidSize}
+use Rattle.tabletexts.specs.Written.{opens, laidSize}
 use Rattle.tablewriter.specs.declared.Out.{Out}
 use Rattle.tablewriter.specs.Writing.{Wrote, state, added, opened, step, Long, newFlags, countsSize, countsBody, leadBody, headBody, startBody, plainPiece, startSize}
 use Rattle.tablewriter.proofs.Laws.{none, added-length, opened-at, opened-room, opened-long}

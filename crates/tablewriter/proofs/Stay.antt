@@ -1,21 +1,20 @@
 -- Bytes that are written as they are: items of one byte that stand in one segment, and go into one. Assumes nothing.
 use Prim.Native.Nat.{ℕ, zero, suc, _+_, _-_, _*_, _≤_, _<_}
 use mathlib.Core.Path.{_≡_, refl, sym, ap, _∙_, subst}
-use mathlib.Core.List.{List, [], _∷_, _++_, append-nil}
+use mathlib.Core.List.{List, [], _∷_, append-nil}
 use mathlib.Core.Bool.{Bool, true, false}
 use native.Mathlib.Omega.{arith}
 use lib.ListN.{length, getD}
 use mir.Val.{Fits as FitsIn}
 use mir.Syntax.{w8}
-use Rattle.walk.specs.Choice.{pick}
 use Rattle.walk.proofs.Choice.{never, pick-nlt}
-use Rattle.le.specs.Bytes.{byteAt, numAt, bytesOf}
+use Rattle.le.specs.Bytes.{numAt, bytesOf}
 use Rattle.le.proofs.Laws.{length-bytes}
 use Rattle.segments.specs.declared.Cursor.{Cursor}
 use Rattle.segments.specs.Segments.{Got, got, listOf, on, items}
 use Rattle.segments.specs.Parts.{Inside, ends, nums, stored}
 use Rattle.segments.proofs.Laws.{items-fit, nums-length}
-use Rattle.tabletexts.specs.Written.{Piece, pieceOf, itemPieces, wideBit, laidSize}
+use Rattle.tabletexts.specs.Written.{pieceOf, itemPieces, wideBit}
 use Rattle.tablewriter.specs.declared.Out.{Out}
 use Rattle.tablewriter.specs.Writing.{Wrote, state, added, step, wrote, Long, Stays}
 use Rattle.tablewriter.proofs.Laws.{none, one-byte}

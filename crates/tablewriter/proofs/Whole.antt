@@ -1,11 +1,11 @@
 -- The laws of a whole string as it is written. Assumes nothing.
-use Prim.Native.Nat.{ℕ, zero, suc, _+_, _-_, _*_, _≤_, _<_, _^_}
+use Prim.Native.Nat.{ℕ, _+_, _*_, _<_}
 use mathlib.Core.Path.{_≡_, refl, sym, ap, ap₂, _∙_, subst}
 use mathlib.Core.List.{List, [], _∷_, _++_, append-assoc, append-nil}
-use mathlib.Core.Bool.{Bool, true, false}
+use mathlib.Core.Bool.{true, false}
 use native.Mathlib.Omega.{arith}
 use lib.ListN.{length}
-use Rattle.le.specs.Bytes.{byteAt, numAt, bytesOf}
+use Rattle.le.specs.Bytes.{byteAt, bytesOf}
 use Rattle.segments.specs.declared.Cursor.{Cursor}
 use Rattle.segments.specs.Segments.{Got, got, refused, then, listOf, on, need, items}
 use Rattle.segments.specs.Parts.{Inside, ends, Passes}
@@ -17,10 +17,10 @@ use Rattle.strings.specs.Table.{phoneticBit, richBit, startSize, headAt, headSi
 use Rattle.strings.specs.Parts.{headRead}
 use Rattle.strings.proofs.Laws.{head-inside, head-some, head-small}
 use Rattle.tabletexts.specs.Texts.{Text, textOf, textAt, theText}
-use Rattle.tabletexts.specs.Written.{Piece, itemPieces, wideBit, flagsOf, headBytes, firstBytes, later, startPiece, textPieces}
+use Rattle.tabletexts.specs.Written.{Piece, itemPieces, wideBit, headBytes, textPieces}
 use Rattle.tabletexts.proofs.Table.{wide-bit}
 use Rattle.tablewriter.specs.declared.Out.{Out}
-use Rattle.tablewriter.specs.Writing.{Wrote, state, wrote, Tidy, Long, Item, newFlags, countsBody, leadBody, headBody, startBody, plainPiece, charPieces, restAt, restPieces}
+use Rattle.tablewriter.specs.Writing.{Wrote, state, wrote, Long, Item, newFlags, countsBody, leadBody, headBody, startBody, plainPiece, charPieces, restAt, restPieces}
 use Rattle.tablewriter.proofs.Laws.{one-byte}
 use Rattle.tablewriter.proofs.Parts.{wrote-append, long-left, long-right, tidy-after, items-inside, then-is, passes-then}
 

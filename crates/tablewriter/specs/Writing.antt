@@ -3,7 +3,7 @@ use Prim.Native.Nat.{ℕ, _+_, _-_, _*_, _≤_}
 use mathlib.Core.Path.{_≡_}
 use mathlib.Core.List.{List, [], _∷_, _++_, map}
 use mathlib.Core.Bool.{Bool, true, false}
-use lib.ListN.{length, drop}
+use lib.ListN.{length}
 use lib.Dec.{eqb}
 use Rattle.walk.specs.Choice.{pick}
 use Rattle.le.specs.Bytes.{numAt, bytesOf}
@@ -14,7 +14,7 @@ use Rattle.strings.specs.declared.Head.{Head}
 use Rattle.strings.specs.Table.{phoneticBit, richBit, nextPlace, strings}
 use Rattle.flags.specs.Flags.{flagsFrom}
 use Rattle.tabletexts.specs.Texts.{Text, textOf, textAt, theText, kept}
-use Rattle.tabletexts.specs.Written.{Piece, opens, roomAfter, laidSize, itemPieces, wideBit, firstBytes, later, textPieces, piecesOf, tableBytes}
+use Rattle.tabletexts.specs.Written.{Piece, opens, laidSize, itemPieces, wideBit, textPieces, piecesOf, tableBytes}
 use Rattle.tablewriter.specs.declared.Out.{Out}
 
 -- what the buffer holds, and where the writer has come to in it

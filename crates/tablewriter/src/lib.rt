@@ -7,11 +7,11 @@ ghost use lib.ListN.{length};
 ghost use Rattle.le.specs.Bytes.{numAt, bytesOf};
 ghost use Rattle.segments.specs.Segments.{got, listOf, on, items};
 ghost use Rattle.segments.specs.Parts.{Inside, Passes, ends, nums, stored};
-ghost use Rattle.tabletexts.specs.Written.{openingOf, pieceOf, itemPieces, wideBit, textPieces, piecesOf, laidSize, tableSize};
+ghost use Rattle.tabletexts.specs.Written.{openingOf, pieceOf, itemPieces, wideBit, textPieces, piecesOf};
 ghost use Rattle.tabletexts.specs.Texts.{theText, textAt, kept};
 ghost use Rattle.strings.specs.Table.{strings};
 ghost use Rattle.flags.specs.Flags.{flagsFrom};
-ghost use Rattle.tablewriter.specs.Writing.{state, closed, added, opened, step, wrote, Tidy, Long, Item, Stays, newFlags, countsSize, countsBody, leadBody, headBody, startBody, plainPiece, startSize, fromPieces, charPieces, restAt, restPieces, textsFrom, nextText, markedPieces, withCounts, tableStart, finished, withTable};
+ghost use Rattle.tablewriter.specs.Writing.{state, closed, added, opened, step, wrote, Tidy, Long, Item, Stays, newFlags, countsSize, countsBody, leadBody, headBody, startBody, plainPiece, startSize, fromPieces, charPieces, restAt, restPieces, textsFrom, nextText, markedPieces, withCounts, tableStart};
 use segments::Cursor;
 use segments::Moved;
 use segments::Room;
@@ -407,7 +407,7 @@ fn put_rest(s: &[u8], h: Head, c: Cursor, buf: &mut [u8], o: Out) -> Copied
 }
 
 // The string whose head stands at d, none of it refused.
-pub fn put_text(s: &[u8], d: Cursor, buf: &mut [u8], o: Out) -> Copied
+fn put_text(s: &[u8], d: Cursor, buf: &mut [u8], o: Out) -> Copied
     requires { ⌜ Inside (now s) d × Tidy o × Passes (textAt (now s) d) × Long (state (now buf) o) (textPieces (theText (textAt (now s) d)) []) ⌝ }
     ensures { λ r. ⌜ got tt (r .from) ≡ ends (textAt (now (s .entry)) d) ⌝ }
     ensures { λ r. ⌜ state (now (buf .exit)) (r .out) ≡ wrote (state (now (buf .entry)) o) (textPieces (theText (textAt (now (s .entry)) d)) []) ⌝ }

@@ -21,7 +21,7 @@ use Rattle.strings.specs.declared.Fetched.{Fetched}
 use Rattle.strings.specs.Table.{fetchedOf, bufferOf}
 use Rattle.textresult.specs.TextResult.{stringPlace, isString, startSize, stringAt, onString, textAt, textOf}
 use Rattle.textresult.specs.FromPlace.{answerTo, bufferTo}
-use Rattle.textresult.proofs.Local.{start-size-low, Right, right}
+use Rattle.textresult.proofs.Local.{start-size-low, right}
 
 -- ---- no units
 pub none-units : (n : ℕ) → Fetched.Units 0 ≡ fetchedOf n []

@@ -5,8 +5,7 @@ use mathlib.Core.List.{List}
 use mathlib.Core.Bool.{Bool, true, false}
 use native.Mathlib.Omega.{arith}
 use lib.ListN.{length}
-use lib.Dec.{ltb}
-use Rattle.walk.proofs.Choice.{never, pick-any, pick-lt, pick-nlt, pick-yes, pick-no}
+use Rattle.walk.proofs.Choice.{pick-any, pick-lt, pick-nlt, pick-yes, pick-no}
 use Rattle.record.specs.declared.Header.{Header}
 use Rattle.record.specs.declared.Header.the-variants.{Record, Cut, End}
 use Rattle.record.specs.Record.{headerAt}

@@ -18,7 +18,7 @@ use Rattle.record.proofs.Laws.{whole, header-alike}
 use Rattle.segments.specs.declared.Cursor.{Cursor}
 use Rattle.segments.specs.Segments.{Got, got, refused, then, on, continues, filled, need, widthOf, items}
 use Rattle.segments.specs.Parts.{Inside}
-use Rattle.segments.proofs.Local.{Within, Reads, refused-not, filled-got, filled-is, need-is, reads-items, continues-kept, within-items}
+use Rattle.segments.proofs.Local.{Within, refused-not, filled-got, filled-is, need-is, reads-items, continues-kept, within-items}
 use Rattle.textresult.specs.TextResult.{between, pastOne, stringPlace, isString, startSize, stringAt, body, onString, textAt, textOf}
 
 pub start-size-low : (s : List ℕ) (p : ℕ) → 3 ≤ startSize s p

@@ -11,9 +11,9 @@ use lib.Dec.{eqb}
 use borrow.Author.Tests.{eqb-true, eqb-false}
 use Rattle.walk.specs.Choice.{pick}
 use Rattle.walk.proofs.Choice.{pick-any, pick-by, pick-eq, pick-ne, pick-true, pick-false}
-use Rattle.walk.specs.Walk.{Next, more, stop, run}
+use Rattle.walk.specs.Walk.{Next, more, stop}
 use Rattle.walk.proofs.Walk.{run-more, run-stop}
-use Rattle.walk.specs.Items.{Item, gives, ends, onto, collect}
+use Rattle.walk.specs.Items.{onto}
 use Rattle.walk.proofs.Items.{Nearer, collect-step}
 use Rattle.record.specs.declared.Header.{Header}
 use Rattle.record.specs.declared.Header.the-variants.{Record, Cut, End}

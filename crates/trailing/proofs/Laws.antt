@@ -1,7 +1,7 @@
 -- Trailing data as the code comes to it, and that it lies within the bytes that are left. Assumes nothing.
-use Prim.Native.Nat.{ℕ, zero, suc, _+_, _-_, _*_, _%_, _^_, _≤_, _<_}
+use Prim.Native.Nat.{ℕ, zero, suc, _+_, _-_, _*_, _^_, _≤_, _<_}
 use mathlib.Core.Path.{_≡_, refl, sym, _∙_, ap, ap₂}
-use mathlib.Core.Bool.{Bool, true, false}
+use mathlib.Core.Bool.{Bool}
 use mathlib.Core.List.{List}
 use native.Mathlib.Omega.{arith}
 use native.Mathlib.Nat.{mul-le-mul}
@@ -12,7 +12,6 @@ use lib.Bits.{bitAnd, and-mask}
 use lib.Dec.{ltb}
 use lib.ListN.{length, take, drop, length-drop}
 use lib.Seq.{take-all}
-use Rattle.walk.specs.Choice.{pick}
 use Rattle.walk.proofs.Choice.{pick-true, pick-false, pick-nlt, picks, pick-by, pick-any}
 use Rattle.le.specs.Bytes.{byteAt, u16At}
 use Rattle.trailing.specs.declared.Data.{Data}

@@ -1,26 +1,22 @@
 -- The laws of windows merged one after the other. Assumes nothing.
-use Prim.Native.Nat.{ℕ, zero, suc, _+_, _-_, _*_, _/_, _≤_, _<_}
-use mathlib.Core.Path.{_≡_, refl, sym, ap, _∙_, subst, subst⁻¹}
+use Prim.Native.Nat.{ℕ, _+_, _-_, _/_, _≤_, _<_}
+use mathlib.Core.Path.{_≡_, refl, sym, ap, _∙_, subst}
 use mathlib.Core.Bool.{Bool, true, false}
-use mathlib.Core.List.{List, [], _∷_, _++_, append-nil}
+use mathlib.Core.List.{List, [], _++_, append-nil}
 use native.Mathlib.Omega.{arith}
 use lib.ListN.{length}
-use lib.Dec.{ltb, eqb}
-use borrow.Author.Tests.{ltb-true, ltb-false}
-use Rattle.walk.specs.Choice.{pick}
 use Rattle.walk.proofs.Choice.{pick-ne}
 use Rattle.cell.specs.declared.Cell.{Cell}
 use Rattle.reading.specs.Cells.{placeAt, listedFrom}
-use Rattle.differences.specs.Differences.{Difference, none, wordsFrom}
+use Rattle.differences.specs.Differences.{Difference, wordsFrom}
 use Rattle.differences.proofs.Laws.{words-split, words-none, words-agree}
-use Rattle.addresses.specs.Addresses.{Stood, nothing, valueIn, AscendFrom, Ascends}
-use Rattle.windows.specs.Windows.{kept, below, Window, Filled, sideList}
+use Rattle.addresses.specs.Addresses.{nothing, valueIn, AscendFrom, Ascends}
+use Rattle.windows.specs.Windows.{kept, below, Filled}
 use Rattle.windows.proofs.Laws.{value-below, value-from}
 use Rattle.reading.specs.Reading.{stringsAt}
-use Rattle.merge.specs.Merge.{puts, putTo, atBoth, differs, wordsBetween, cellWords, sideWords}
+use Rattle.merge.specs.Merge.{puts, putTo, atBoth, differs, wordsBetween, sideWords}
 use Rattle.merge.proofs.Puts.{puts-part, to-part, length-puts, puts-full, to-stays}
 use Rattle.unordered.specs.declared.Fit.{Fit}
-use Rattle.unordered.specs.declared.Fit.the-variants as fit
 use Rattle.unordered.specs.Unordered.{Fitting}
 
 module _ (s t : List ℕ) (p q : List (List ℕ)) (base : ℕ) where

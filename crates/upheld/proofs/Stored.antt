@@ -1,5 +1,5 @@
 -- A stream that passes still does after a number that is right is stored in the value field of a listed cell: its globals and its sheets are the same. Assumes nothing.
-use Prim.Native.Nat.{ℕ, _+_, _-_, _*_, _≤_, _<_}
+use Prim.Native.Nat.{ℕ, _+_, _*_, _≤_, _<_}
 use mathlib.Core.Path.{_≡_, refl, sym, ap, ap₂, _∙_, subst}
 use mathlib.Core.List.{List}
 use mathlib.Core.Logic.{_⊎_, inl, inr}
@@ -7,7 +7,7 @@ use mathlib.Core.Bool.{true, false}
 use native.Mathlib.Omega.{arith}
 use lib.ListN.{length, getD}
 use lib.Dec.{eqb}
-use lib.Seq.{sets, length-sets}
+use lib.Seq.{length-sets}
 use Rattle.walk.specs.Choice.{pick}
 use Rattle.walk.proofs.Choice.{never, pick-any, pick-by, pick-false, pick-ne}
 use Rattle.le.specs.Bytes.{numAt, bytesOf}
@@ -16,7 +16,6 @@ use Rattle.record.specs.declared.Header.the-variants.{Record}
 use Rattle.record.specs.Record.{headerAt}
 use Rattle.record.proofs.Laws.{whole}
 use Rattle.value.specs.declared.Field.{Field}
-use Rattle.value.specs.declared.Field.the-variants.{StoredResult}
 use Rattle.value.specs.Value.{widthOf, valueFits, indexFits}
 use Rattle.cell.specs.declared.Shape.{Shape}
 use Rattle.cell.specs.declared.Shape.the-variants.{BLANK, NUMBER, RK, LABELSST, BOOLERR, MULRK, MULBLANK, FORMULA, OTHER}
@@ -49,7 +48,7 @@ use Rattle.chain.proofs.Walks.{globals-reach}
 use Rattle.chain.proofs.Tops.{opening, tops-reach}
 use Rattle.chain.proofs.Sheets.{passing, passes, sheets-stand}
 use Rattle.upheld.specs.Granted.{Listed}
-use Rattle.upheld.specs.Stored.{storedIn, Fits, Placed, Stored}
+use Rattle.upheld.specs.Stored.{storedIn, Placed, Stored}
 use Rattle.upheld.specs.Local.{Moves, Agreeing}
 use Rattle.upheld.proofs.Steps.{pick-same-by, other-same}
 use Rattle.upheld.proofs.Walks.{tops-local}

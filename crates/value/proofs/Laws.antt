@@ -1,21 +1,20 @@
 -- The laws of a value field. Assumes nothing.
-use Prim.Native.Nat.{ℕ, _/_, _%_, _^_, _<_}
+use Prim.Native.Nat.{ℕ, _/_, _%_, _^_}
 use mathlib.Core.Path.{_≡_, refl, sym, ap, ap₂, _∙_}
 use mathlib.Core.Bool.{Bool, true, false}
 use native.Mathlib.Omega.{arith}
 use lib.Ieee.{Float, binary64, ofBits}
-use Rattle.walk.specs.Choice.{pick}
 use Rattle.walk.proofs.Choice.{pick-true, pick-false, pick-eq, pick-ne}
 use Rattle.boolerr.specs.Boolerr.{isTruth, isError}
 use Rattle.number.specs.Float64.{isNanBits}
-use Rattle.number.specs.Rk.{rkBits, meansNothing, rkOf}
-use Rattle.number.proofs.Laws.{bits-of-float, rk-bits-lt, rk-bits-number, nan-told, rk-number as rk-means}
+use Rattle.number.specs.Rk.{rkOf}
+use Rattle.number.proofs.Laws.{nan-told}
 use Rattle.number.specs.declared.Rk.{Rk}
 use Rattle.number.specs.declared.Rk.the-variants.{Number as RkNumber, Nothing as RkNothing}
 use Rattle.value.specs.declared.FormulaResult.{FormulaResult}
 use Rattle.value.specs.declared.FormulaResult.the-variants.{Number as ResultNumber, NotNumber as ResultNotNumber}
 use Rattle.value.specs.declared.CellValue.the-variants.{Blank, Number, NotNumber, Truth, Error}
-use Rattle.value.specs.Value.{floatValue, rkValue, truthError, resultNumber, markedResult, resultOf, truthErrorFits, markedFits, resultFits, bitsOfResult, bitsOfValue}
+use Rattle.value.specs.Value.{floatValue, rkValue, truthError, resultNumber, markedResult, resultOf, truthErrorFits, markedFits, resultFits}
 
 -- ---- 64 bits; t says whether they are a NaN's
 module _ (b : ℕ) (t : Bool) (told : t ≡ isNanBits b) where
@@ -87,23 +86,3 @@ module _ (n : ℕ) (plain : n / 281474976710656 ≡ 65535 → ⊥) where
 pub ruleset byte-laws = (truth-is, error-is, truth-fits, error-fits, neither-fits, marked-is, marked-right, number-is, number-right)
 
 pub ruleset number-laws = (nan-told, float-nan, float-is, result-nan, result-is, rk-number, rk-nothing)
-
--- ---- the 64 bits that a value carries
-pub float-bits : (b : ℕ) → b < 2 ^ 64 → bitsOfValue (floatValue b) ≡ b
-unfolding floatValue pick
-float-bits b h = go (isNanBits b) refl
-  where
-    go : (t : Bool) → isNanBits b ≡ t → bitsOfValue (pick t (NotNumber b) (Number (ofBits binary64 b))) ≡ b
-    go true e = refl
-    go false e = bits-of-float b h e
-
-pub result-bits : (b : ℕ) → b < 2 ^ 64 → bitsOfResult (resultNumber b) ≡ b
-unfolding resultNumber pick
-result-bits b h = go (isNanBits b) refl
-  where
-    go : (t : Bool) → isNanBits b ≡ t → bitsOfResult (pick t (ResultNotNumber b) (ResultNumber (ofBits binary64 b))) ≡ b
-    go true e = refl
-    go false e = bits-of-float b h e
-
-pub rk-value-bits : (w : ℕ) → w < 2 ^ 32 → meansNothing w ≡ false → bitsOfValue (rkValue (rkOf w)) ≡ rkBits w
-rk-value-bits w h m = ap (λ (r : Rk). bitsOfValue (rkValue r)) (rk-means w m) ∙ bits-of-float (rkBits w) (rk-bits-lt w h m) (rk-bits-number w h m)

@@ -1,5 +1,5 @@
 -- The laws of a walk, over the state and the answer. Assumes nothing.
-use Prim.Native.Nat.{ℕ, zero, suc, _≤_, _<_}
+use Prim.Native.Nat.{ℕ, zero, suc, _<_}
 use mathlib.Core.Path.{_≡_, refl, ap, _∙_}
 use native.Mathlib.Omega.{arith}
 use Rattle.walk.specs.Walk.{Next, more, stop, next, runF, run}

@@ -1,14 +1,12 @@
 -- The laws of the check, with what a call gave as the proofs have it. Assumes nothing.
-use Prim.Native.Nat.{ℕ, _+_, _-_, _^_, _≤_, _<_}
+use Prim.Native.Nat.{ℕ, _+_, _^_, _≤_, _<_}
 use mathlib.Core.Path.{_≡_, refl, sym, ap, _∙_, subst}
-use mathlib.Core.List.{List, [], _∷_}
+use mathlib.Core.List.{List}
 use native.Mathlib.Omega.{arith}
 use native.Mathlib.Numerals.{add-one}
-use native.Mathlib.Nat.{add-assoc}
 use lib.ListN.{length}
 use lib.Dec.{ltb}
 use borrow.Author.Tests.{ltb-false}
-use Rattle.walk.specs.Choice.{pick}
 use Rattle.walk.proofs.Choice.{pick-by, pick-lt, pick-nlt}
 use Rattle.sheetlist.specs.declared.Agreement.{Agreement}
 use Rattle.sheetlist.specs.Agreement.{agreementOf}
@@ -20,8 +18,7 @@ use Rattle.globals.specs.declared.Ended.the-variants as globals
 use Rattle.globals.specs.Globals.{globalsOf}
 use Rattle.globals.specs.Sheets.{boundAt, sheetsFrom, sheetsOf}
 use Rattle.globals.proofs.Sheets.{sheets-done, sheets-skip, sheets-more, sheets-less, skip-less}
-use Rattle.toplevel.specs.declared.Walked.the-variants as walked
-use Rattle.toplevel.specs.TopLevel.{topsFrom, bofsFrom}
+use Rattle.toplevel.specs.TopLevel.{bofsFrom}
 use Rattle.sheets.specs.declared.Tail.{Tail}
 use Rattle.sheets.specs.declared.Tail.the-variants as tail
 use Rattle.sheets.specs.Tops.{tailOf}

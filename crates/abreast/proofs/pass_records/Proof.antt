@@ -6,10 +6,6 @@ use lib.ListN.{length}
 use Prim.Native.Nat.{_+_, _-_}
 use Rattle.abreast.proofs.pass_records.Statement.{statement}
 use Rattle.abreast.proofs.pass_records.Tie as tie
-use Rattle.abreast.proofs.pass_records.Reads as reads
-use Rattle.abreast.proofs.pass_records.Lts as lts
-use Rattle.abreast.proofs.same_record.Reads as same-record-reads
-use Rattle.addresses.proofs.past_others.Reads as past-others-reads
 
 abbrev Inv-loop : tie.InvT-loop
 Inv-loop s a t b common x₀ y₀ x y = Ahead s t common (listedFrom s (placeAt a 0)) (listedFrom t (placeAt b 0)) (listedFrom s (placeAt x 0)) (listedFrom t (placeAt y 0))

@@ -3,9 +3,6 @@ use Rattle.reading.specs.Cells.{placeAt}
 use borrow.Author.Needs.{needs}
 use Rattle.abreast.proofs.pass_same.Statement.{statement}
 use Rattle.abreast.proofs.pass_same.Tie as tie
-use Rattle.abreast.proofs.pass_same.Reads as reads
-use Rattle.abreast.proofs.pass_same.Lts as lts
-use Rattle.abreast.proofs.pass_records.Reads as pass-records-reads
 
 -- src/lib.rt:220:25
 pass-records-requires : tie.Need-pass-records-requires

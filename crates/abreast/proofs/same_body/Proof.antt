@@ -2,11 +2,6 @@ use Rattle.abreast.proofs.Laws.{room-laws, body-says}
 use borrow.Author.Needs.{needs}
 use Rattle.abreast.proofs.same_body.Statement.{statement}
 use Rattle.abreast.proofs.same_body.Tie as tie
-use Rattle.abreast.proofs.same_body.Reads as reads
-use Rattle.abreast.proofs.same_body.Lts as lts
-use Rattle.abreast.proofs.same_cells.Reads as same-cells-reads
-use Rattle.cell.proofs.cell_count.Reads as cell-count-reads
-use Rattle.le.proofs.u16_at.Reads as u16-at-reads
 
 -- src/lib.rt:132:9
 cell-count-requires : tie.Need-cell-count-requires

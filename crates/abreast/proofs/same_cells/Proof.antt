@@ -2,14 +2,6 @@ use Rattle.abreast.proofs.Laws.{float-room, rk-room, index-room, truth-
 use borrow.Author.Needs.{needs}
 use Rattle.abreast.proofs.same_cells.Statement.{statement}
 use Rattle.abreast.proofs.same_cells.Tie as tie
-use Rattle.abreast.proofs.same_cells.Reads as reads
-use Rattle.abreast.proofs.same_cells.Lts as lts
-use Rattle.abreast.proofs.same_index.Reads as same-index-reads
-use Rattle.abreast.proofs.same_stored.Reads as same-stored-reads
-use Rattle.abreast.proofs.same_u16.Reads as same-u16-reads
-use Rattle.abreast.proofs.same_u32.Reads as same-u32-reads
-use Rattle.abreast.proofs.same_u64.Reads as same-u64-reads
-use Rattle.abreast.proofs.same_words.Reads as same-words-reads
 
 -- src/lib.rt:115:31
 add-same-u64 : tie.Need-add-same-u64

@@ -2,9 +2,6 @@ use Rattle.abreast.proofs.Laws.{index-same}
 use borrow.Author.Needs.{needs}
 use Rattle.abreast.proofs.same_index.Statement.{statement}
 use Rattle.abreast.proofs.same_index.Tie as tie
-use Rattle.abreast.proofs.same_index.Reads as reads
-use Rattle.abreast.proofs.same_index.Lts as lts
-use Rattle.le.proofs.u32_at.Reads as u32-at-reads
 
 -- src/lib.rt:76:27
 add-u32-at : tie.Need-add-u32-at

@@ -2,10 +2,6 @@ use Rattle.abreast.proofs.Laws.{first-within, second-within, size-fits,
 use borrow.Author.Needs.{needs}
 use Rattle.abreast.proofs.same_record.Statement.{statement}
 use Rattle.abreast.proofs.same_record.Tie as tie
-use Rattle.abreast.proofs.same_record.Reads as reads
-use Rattle.abreast.proofs.same_record.Lts as lts
-use Rattle.abreast.proofs.same_body.Reads as same-body-reads
-use Rattle.record.proofs.header_at.Reads as header-at-reads
 
 -- src/lib.rt:152:11
 header-at-requires : tie.Need-header-at-requires

@@ -2,11 +2,6 @@ use Rattle.abreast.proofs.Laws.{stored-plain, stored-text}
 use borrow.Author.Needs.{needs}
 use Rattle.abreast.proofs.same_stored.Statement.{statement}
 use Rattle.abreast.proofs.same_stored.Tie as tie
-use Rattle.abreast.proofs.same_stored.Reads as reads
-use Rattle.abreast.proofs.same_stored.Lts as lts
-use Rattle.characters.proofs.same_result.Reads as same-result-reads
-use Rattle.le.proofs.u64_at.Reads as u64-at-reads
-use Rattle.textresult.proofs.has_text.Reads as has-text-reads
 
 -- src/lib.rt:91:22
 add-u64-at : tie.Need-add-u64-at

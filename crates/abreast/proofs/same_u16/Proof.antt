@@ -2,9 +2,6 @@ use Rattle.abreast.proofs.Laws.{number-eqb}
 use borrow.Author.Needs.{needs}
 use Rattle.abreast.proofs.same_u16.Statement.{statement}
 use Rattle.abreast.proofs.same_u16.Tie as tie
-use Rattle.abreast.proofs.same_u16.Reads as reads
-use Rattle.abreast.proofs.same_u16.Lts as lts
-use Rattle.le.proofs.u16_at.Reads as u16-at-reads
 
 -- src/lib.rt:49:5
 u16-at-requires : tie.Need-u16-at-requires

@@ -2,9 +2,6 @@ use Rattle.abreast.proofs.Laws.{number-eqb}
 use borrow.Author.Needs.{needs}
 use Rattle.abreast.proofs.same_u32.Statement.{statement}
 use Rattle.abreast.proofs.same_u32.Tie as tie
-use Rattle.abreast.proofs.same_u32.Reads as reads
-use Rattle.abreast.proofs.same_u32.Lts as lts
-use Rattle.le.proofs.u32_at.Reads as u32-at-reads
 
 -- src/lib.rt:42:5
 u32-at-requires : tie.Need-u32-at-requires

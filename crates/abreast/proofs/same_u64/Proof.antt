@@ -2,9 +2,6 @@ use Rattle.abreast.proofs.Laws.{number-eqb}
 use borrow.Author.Needs.{needs}
 use Rattle.abreast.proofs.same_u64.Statement.{statement}
 use Rattle.abreast.proofs.same_u64.Tie as tie
-use Rattle.abreast.proofs.same_u64.Reads as reads
-use Rattle.abreast.proofs.same_u64.Lts as lts
-use Rattle.le.proofs.u64_at.Reads as u64-at-reads
 
 -- src/lib.rt:35:5
 u64-at-requires : tie.Need-u64-at-requires

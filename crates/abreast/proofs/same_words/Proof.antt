@@ -5,9 +5,6 @@ use lib.ListN.{length}
 use borrow.Author.Needs.{needs}
 use Rattle.abreast.proofs.same_words.Statement.{statement}
 use Rattle.abreast.proofs.same_words.Tie as tie
-use Rattle.abreast.proofs.same_words.Reads as reads
-use Rattle.abreast.proofs.same_words.Lts as lts
-use Rattle.le.proofs.u32_at.Reads as u32-at-reads
 
 abbrev Inv-loop : tie.InvT-loop
 Inv-loop s a t b n x₀ y₀ left₀ x y left = (x + left * 6 ≤ length s) × ((y + left * 6 ≤ length t) × ((left < 65536) × (SameWords s t x y left → SameWords s t a b n)))

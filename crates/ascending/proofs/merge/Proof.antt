@@ -8,13 +8,6 @@ use native.Mathlib.Omega.{arith}
 use Prim.Native.Nat.{_-_}
 use Rattle.ascending.proofs.merge.Statement.{statement}
 use Rattle.ascending.proofs.merge.Tie as tie
-use Rattle.ascending.proofs.merge.Reads as reads
-use Rattle.ascending.proofs.merge.Lts as lts
-use Rattle.abreast.proofs.pass_same.Reads as pass-same-reads
-use Rattle.addresses.proofs.seek.Reads as seek-reads
-use Rattle.merge.proofs.put.Reads as put-reads
-use Rattle.merge.proofs.put_unequal.Reads as put-unequal-reads
-use Rattle.merge.proofs.turn_of.Reads as turn-of-reads
 
 abbrev Inv-loop : tie.InvT-loop
 Inv-loop s v p m z f t w q n u g common base from i out₀ x₀ y₀ k₀ j₀ out x y k j = Going s t (stringsAt s p) (stringsAt t q) (listedFrom s (placeAt v 0)) (listedFrom t (placeAt w 0)) base from i out₀ out x y k j

@@ -1,4 +1,3 @@
-use borrow.Author.Needs.{needs}
 use Rattle.walk.proofs.Choice.{tests}
 use Rattle.walk.specs.Choice.{pick}
 use Rattle.boolerr.specs.Boolerr.{isError}

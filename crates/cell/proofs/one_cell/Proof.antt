@@ -1,4 +1,3 @@
-use borrow.Author.Needs.{needs}
 use Rattle.walk.proofs.Choice.{picks}
 use Rattle.cell.specs.Cells.{sized}
 use Rattle.cell.proofs.one_cell.Statement.{statement}

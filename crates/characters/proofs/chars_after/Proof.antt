@@ -3,12 +3,6 @@ use Rattle.record.proofs.Laws.{end-within}
 use borrow.Author.Needs.{needs}
 use Rattle.characters.proofs.chars_after.Statement.{statement}
 use Rattle.characters.proofs.chars_after.Tie as tie
-use Rattle.characters.proofs.chars_after.Reads as reads
-use Rattle.characters.proofs.chars_after.Lts as lts
-use Rattle.record.proofs.header_at.Reads as header-at-reads
-use Rattle.characters.proofs.chars_from.Reads as chars-from-reads
-use Rattle.characters.proofs.none.Reads as none-reads
-use Rattle.textresult.proofs.string_place.Reads as string-place-reads
 
 -- src/lib.rt:104:11
 header-at-requires : tie.Need-header-at-requires

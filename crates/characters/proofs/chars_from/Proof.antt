@@ -3,12 +3,6 @@ use Rattle.textresult.proofs.Laws.{body-inside}
 use borrow.Author.Needs.{needs}
 use Rattle.characters.proofs.chars_from.Statement.{statement}
 use Rattle.characters.proofs.chars_from.Tie as tie
-use Rattle.characters.proofs.chars_from.Reads as reads
-use Rattle.characters.proofs.chars_from.Lts as lts
-use Rattle.record.proofs.header_at.Reads as header-at-reads
-use Rattle.characters.proofs.chars_if.Reads as chars-if-reads
-use Rattle.characters.proofs.none.Reads as none-reads
-use Rattle.textresult.proofs.is_string.Reads as is-string-reads
 
 -- src/lib.rt:73:8
 is-string-requires : tie.Need-is-string-requires

@@ -3,11 +3,6 @@ use Rattle.textresult.proofs.Fetch.{moved-passes}
 use borrow.Author.Needs.{needs}
 use Rattle.characters.proofs.chars_if.Statement.{statement}
 use Rattle.characters.proofs.chars_if.Tie as tie
-use Rattle.characters.proofs.chars_if.Reads as reads
-use Rattle.characters.proofs.chars_if.Lts as lts
-use Rattle.characters.proofs.none.Reads as none-reads
-use Rattle.characters.proofs.string_chars.Reads as string-chars-reads
-use Rattle.textresult.proofs.skip_string.Reads as skip-string-reads
 
 -- src/lib.rt:59:11
 skip-string-requires : tie.Need-skip-string-requires

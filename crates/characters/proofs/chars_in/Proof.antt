@@ -2,8 +2,6 @@ use Rattle.characters.proofs.Laws.{name-laws}
 use borrow.Author.Needs.{needs}
 use Rattle.characters.proofs.chars_in.Statement.{statement}
 use Rattle.characters.proofs.chars_in.Tie as tie
-use Rattle.characters.proofs.chars_in.Reads as reads
-use Rattle.characters.proofs.chars_in.Lts as lts
 
 -- src/lib.rt:120:9
 returns : tie.Need-returns

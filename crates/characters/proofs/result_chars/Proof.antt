@@ -2,12 +2,6 @@ use Rattle.characters.proofs.TextResults.{cell-laws}
 use borrow.Author.Needs.{needs}
 use Rattle.characters.proofs.result_chars.Statement.{statement}
 use Rattle.characters.proofs.result_chars.Tie as tie
-use Rattle.characters.proofs.result_chars.Reads as reads
-use Rattle.characters.proofs.result_chars.Lts as lts
-use Rattle.characters.proofs.chars_after.Reads as chars-after-reads
-use Rattle.characters.proofs.header_of.Reads as header-of-reads
-use Rattle.characters.proofs.none.Reads as none-reads
-use Rattle.characters.proofs.value_says.Reads as value-says-reads
 
 -- src/lib.rt:156:8
 value-says-requires : tie.Need-value-says-requires

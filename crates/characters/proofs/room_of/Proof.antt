@@ -2,9 +2,6 @@ use Rattle.characters.proofs.Laws.{room-not, room-ready}
 use borrow.Author.Needs.{needs}
 use Rattle.characters.proofs.room_of.Statement.{statement}
 use Rattle.characters.proofs.room_of.Tie as tie
-use Rattle.characters.proofs.room_of.Reads as reads
-use Rattle.characters.proofs.room_of.Lts as lts
-use Rattle.segments.proofs.room_for.Reads as room-for-reads
 
 -- src/lib.rt:63:11
 room-for-requires : tie.Need-room-for-requires

@@ -2,9 +2,6 @@ use Rattle.characters.proofs.Laws.{run-made, run-product}
 use borrow.Author.Needs.{needs}
 use Rattle.characters.proofs.run_of.Statement.{statement}
 use Rattle.characters.proofs.run_of.Tie as tie
-use Rattle.characters.proofs.run_of.Reads as reads
-use Rattle.characters.proofs.run_of.Lts as lts
-use Rattle.segments.proofs.fit_items.Reads as fit-items-reads
 
 -- src/lib.rt:30:9
 fit-items-requires : tie.Need-fit-items-requires

@@ -1,17 +1,11 @@
-use Rattle.characters.proofs.Laws.{chars-laws, chars-end, same-moved, turned, run-first, run-second, parted-same, parted-differ}
-use Rattle.characters.specs.Characters.{Readable, unitsIn, pastBy}
+use Rattle.characters.proofs.Laws.{chars-laws, chars-end, same-moved, turned, parted-same, parted-differ}
+use Rattle.characters.specs.Characters.{Readable, unitsIn}
 use Rattle.differences.specs.Differences.{same}
 use borrow.Author.Needs.{needs}
 use native.Mathlib.Omega.{arith}
 use mathlib.Core.Path.{_≡_, refl, sym, ap, _∙_, subst⁻¹}
 use Rattle.characters.proofs.same_chars.Statement.{statement}
 use Rattle.characters.proofs.same_chars.Tie as tie
-use Rattle.characters.proofs.same_chars.Reads as reads
-use Rattle.characters.proofs.same_chars.Lts as lts
-use Rattle.characters.proofs.past.Reads as past-reads
-use Rattle.characters.proofs.room_of.Reads as room-of-reads
-use Rattle.characters.proofs.run_of.Reads as run-of-reads
-use Rattle.characters.proofs.same_run.Reads as same-run-reads
 
 abbrev Inv-loop : tie.InvT-loop
 Inv-loop s t c₀ d₀ c d = Readable s c × Readable t d × (c .count ≡ d .count) × (same (unitsIn s c₀) (unitsIn t d₀) ≡ same (unitsIn s c) (unitsIn t d))

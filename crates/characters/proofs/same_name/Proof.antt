@@ -2,10 +2,6 @@ use Rattle.characters.proofs.Laws.{name-laws}
 use borrow.Author.Needs.{needs}
 use Rattle.characters.proofs.same_name.Statement.{statement}
 use Rattle.characters.proofs.same_name.Tie as tie
-use Rattle.characters.proofs.same_name.Reads as reads
-use Rattle.characters.proofs.same_name.Lts as lts
-use Rattle.characters.proofs.chars_in.Reads as chars-in-reads
-use Rattle.characters.proofs.same_run.Reads as same-run-reads
 
 -- src/lib.rt:130:9
 chars-in-requires : tie.Need-chars-in-requires

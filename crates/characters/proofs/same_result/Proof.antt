@@ -2,10 +2,6 @@ use Rattle.characters.proofs.TextResults.{read-same}
 use borrow.Author.Needs.{needs}
 use Rattle.characters.proofs.same_result.Statement.{statement}
 use Rattle.characters.proofs.same_result.Tie as tie
-use Rattle.characters.proofs.same_result.Reads as reads
-use Rattle.characters.proofs.same_result.Lts as lts
-use Rattle.characters.proofs.result_chars.Reads as result-chars-reads
-use Rattle.characters.proofs.same_chars.Reads as same-chars-reads
 
 -- src/lib.rt:166:9
 result-chars-requires : tie.Need-result-chars-requires

@@ -8,10 +8,6 @@ use lib.ListN.{length}
 use mathlib.Core.Path.{_≡_}
 use Rattle.characters.proofs.same_run.Statement.{statement}
 use Rattle.characters.proofs.same_run.Tie as tie
-use Rattle.characters.proofs.same_run.Reads as reads
-use Rattle.characters.proofs.same_run.Lts as lts
-use Rattle.characters.proofs.same_words.Reads as same-words-reads
-use Rattle.segments.proofs.unit_at.Reads as unit-at-reads
 
 abbrev Inv-loop : tie.InvT-loop
 Inv-loop s w p t v q k done a₀ b₀ left₀ a b left = (a + left * w ≤ length s) × (b + left * v ≤ length t) × (same (nums s w k p) (nums t v k q) ≡ same (nums s w left a) (nums t v left b))

@@ -2,13 +2,8 @@ use Rattle.characters.proofs.Laws.{Met, met-none, met-skips, none-skips
 use borrow.Author.Needs.{needs}
 use native.Mathlib.Omega.{arith}
 use Prim.Native.Nat.{_-_}
-use mathlib.Core.Path.{_≡_}
 use Rattle.characters.proofs.same_words.Statement.{statement}
 use Rattle.characters.proofs.same_words.Tie as tie
-use Rattle.characters.proofs.same_words.Reads as reads
-use Rattle.characters.proofs.same_words.Lts as lts
-use Rattle.characters.proofs.chars_in.Reads as chars-in-reads
-use Rattle.le.proofs.u64_at.Reads as u64-at-reads
 
 abbrev Inv-loop : tie.InvT-loop
 Inv-loop s w p t v q k word a₀ b₀ done₀ a b done = Met s w p t v q k a b done

@@ -3,12 +3,6 @@ use Rattle.textresult.proofs.Fetch.{short-not}
 use borrow.Author.Needs.{needs}
 use Rattle.characters.proofs.string_chars.Statement.{statement}
 use Rattle.characters.proofs.string_chars.Tie as tie
-use Rattle.characters.proofs.string_chars.Reads as reads
-use Rattle.characters.proofs.string_chars.Lts as lts
-use Rattle.le.proofs.u16_as_usize.Reads as u16-as-usize-reads
-use Rattle.le.proofs.u16_at.Reads as u16-at-reads
-use Rattle.characters.proofs.none.Reads as none-reads
-use Rattle.segments.proofs.width_of.Reads as width-of-reads
 
 -- src/lib.rt:40:8
 sub-if1 : tie.Need-sub-if1

@@ -3,10 +3,6 @@ use Rattle.compacting.proofs.Prepare.{check-laws, right-is}
 use borrow.Author.Needs.{needs}
 use Rattle.compacting.proofs.compact.Statement.{statement}
 use Rattle.compacting.proofs.compact.Tie as tie
-use Rattle.compacting.proofs.compact.Reads as reads
-use Rattle.compacting.proofs.compact.Lts as lts
-use Rattle.compacting.proofs.compact_checked.Reads as compact-checked-reads
-use Rattle.workbook.proofs.check_with.Reads as check-with-reads
 
 -- src/lib.rt:269:11
 check-with-requires : tie.Need-check-with-requires

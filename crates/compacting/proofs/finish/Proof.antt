@@ -2,10 +2,6 @@ use Rattle.compacting.proofs.Answers.{finish-laws, answer-laws}
 use borrow.Author.Needs.{needs}
 use Rattle.compacting.proofs.finish.Statement.{statement}
 use Rattle.compacting.proofs.finish.Tie as tie
-use Rattle.compacting.proofs.finish.Reads as reads
-use Rattle.compacting.proofs.finish.Lts as lts
-use Rattle.compacting.proofs.write_new.Reads as write-new-reads
-use Rattle.spots.proofs.length_with.Reads as length-with-reads
 
 -- src/lib.rt:146:9
 length-with-requires : tie.Need-length-with-requires

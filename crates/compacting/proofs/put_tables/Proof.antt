@@ -8,11 +8,6 @@ use Rattle.edits.specs.Edited.{tableChange}
 use Rattle.compacting.specs.Parts.{bytesFor}
 use Rattle.compacting.proofs.put_tables.Statement.{statement}
 use Rattle.compacting.proofs.put_tables.Tie as tie
-use Rattle.compacting.proofs.put_tables.Reads as reads
-use Rattle.compacting.proofs.put_tables.Lts as lts
-use Rattle.compacting.proofs.table_entry.Reads as table-entry-reads
-use Rattle.spots.proofs.size_of.Reads as size-of-reads
-use Rattle.spots.proofs.step_at.Reads as step-at-reads
 
 abbrev Inv-loop : tie.InvT-loop
 Inv-loop s t flags₀ out₀ table w₀ q₀ flags out w q = Editing s (tableChange (bytesFor s t)) (t .size) out₀ w q out × (length flags ≡ length flags₀)

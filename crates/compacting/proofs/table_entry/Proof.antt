@@ -2,9 +2,6 @@ use Rattle.compacting.proofs.Laws.{entry-laws}
 use borrow.Author.Needs.{needs}
 use Rattle.compacting.proofs.table_entry.Statement.{statement}
 use Rattle.compacting.proofs.table_entry.Tie as tie
-use Rattle.compacting.proofs.table_entry.Reads as reads
-use Rattle.compacting.proofs.table_entry.Lts as lts
-use Rattle.tablechunks.proofs.put_new.Reads as put-new-reads
 
 -- src/lib.rt:55:80
 enum-told : tie.Need-enum-told

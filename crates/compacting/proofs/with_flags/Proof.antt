@@ -2,13 +2,6 @@ use Rattle.compacting.proofs.Prepare.{with-laws}
 use borrow.Author.Needs.{needs}
 use Rattle.compacting.proofs.with_flags.Statement.{statement}
 use Rattle.compacting.proofs.with_flags.Tie as tie
-use Rattle.compacting.proofs.with_flags.Reads as reads
-use Rattle.compacting.proofs.with_flags.Lts as lts
-use Rattle.compacting.proofs.finish.Reads as finish-reads
-use Rattle.compacting.proofs.table_end.Reads as table-end-reads
-use Rattle.le.proofs.u32_as_usize.Reads as u32-as-usize-reads
-use Rattle.reindexing.proofs.count_texts.Reads as count-texts-reads
-use Rattle.tablechunks.proofs.size_all.Reads as size-all-reads
 
 -- src/lib.rt:184:9
 table-end-requires : tie.Need-table-end-requires

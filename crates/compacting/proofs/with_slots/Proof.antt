@@ -3,11 +3,6 @@ use Rattle.compacting.proofs.None.{without-laws}
 use borrow.Author.Needs.{needs}
 use Rattle.compacting.proofs.with_slots.Statement.{statement}
 use Rattle.compacting.proofs.with_slots.Tie as tie
-use Rattle.compacting.proofs.with_slots.Reads as reads
-use Rattle.compacting.proofs.with_slots.Lts as lts
-use Rattle.copying.proofs.copy_kept.Reads as copy-kept-reads
-use Rattle.rewriting.proofs.put_positions.Reads as put-positions-reads
-use Rattle.spots.proofs.length_with.Reads as length-with-reads
 
 -- src/lib.rt:227:9
 length-with-requires : tie.Need-length-with-requires

@@ -2,10 +2,6 @@ use Rattle.compacting.proofs.Laws.{write-laws, word-laws}
 use borrow.Author.Needs.{needs}
 use Rattle.compacting.proofs.write_new.Statement.{statement}
 use Rattle.compacting.proofs.write_new.Tie as tie
-use Rattle.compacting.proofs.write_new.Reads as reads
-use Rattle.compacting.proofs.write_new.Lts as lts
-use Rattle.compacting.proofs.write_rest.Reads as write-rest-reads
-use Rattle.compacting.proofs.write_table.Reads as write-table-reads
 
 -- src/lib.rt:128:5
 write-table-requires : tie.Need-write-table-requires

@@ -1,11 +1,7 @@
-use Rattle.compacting.proofs.Laws.{write-laws, word-laws}
+use Rattle.compacting.proofs.Laws.{word-laws}
 use borrow.Author.Needs.{needs}
 use Rattle.compacting.proofs.write_rest.Statement.{statement}
 use Rattle.compacting.proofs.write_rest.Tie as tie
-use Rattle.compacting.proofs.write_rest.Reads as reads
-use Rattle.compacting.proofs.write_rest.Lts as lts
-use Rattle.reindexing.proofs.reindex.Reads as reindex-reads
-use Rattle.rewriting.proofs.put_positions.Reads as put-positions-reads
 
 -- src/lib.rt:116:5
 reindex-requires : tie.Need-reindex-requires

@@ -2,10 +2,6 @@ use Rattle.compacting.proofs.Laws.{write-laws, word-laws}
 use borrow.Author.Needs.{needs}
 use Rattle.compacting.proofs.write_table.Statement.{statement}
 use Rattle.compacting.proofs.write_table.Tie as tie
-use Rattle.compacting.proofs.write_table.Reads as reads
-use Rattle.compacting.proofs.write_table.Lts as lts
-use Rattle.compacting.proofs.put_tables.Reads as put-tables-reads
-use Rattle.copying.proofs.copy_kept.Reads as copy-kept-reads
 
 -- src/lib.rt:102:5
 copy-kept-requires : tie.Need-copy-kept-requires

@@ -6,10 +6,6 @@ use lib.ListN.{length}
 use Prim.Native.Nat.{_-_}
 use Rattle.compare.proofs.all_ascend.Statement.{statement}
 use Rattle.compare.proofs.all_ascend.Tie as tie
-use Rattle.compare.proofs.all_ascend.Reads as reads
-use Rattle.compare.proofs.all_ascend.Lts as lts
-use Rattle.compare.proofs.sheet_at.Reads as sheet-at-reads
-use Rattle.addresses.proofs.ascends.Reads as ascends-reads
 
 abbrev Inv-loop : tie.InvT-loop
 Inv-loop s a₀ a = AllAscend s (sheetsFrom s a) → AllAscend s (sheetsOf s)

@@ -4,12 +4,6 @@ use Rattle.workbook.proofs.Laws.{short}
 use borrow.Author.Needs.{needs}
 use Rattle.compare.proofs.compare.Statement.{statement}
 use Rattle.compare.proofs.compare.Tie as tie
-use Rattle.compare.proofs.compare.Reads as reads
-use Rattle.compare.proofs.compare.Lts as lts
-use Rattle.compare.proofs.list_both.Reads as list-both-reads
-use Rattle.compare.proofs.all_ascend.Reads as all-ascend-reads
-use Rattle.compare.proofs.twice_in.Reads as twice-in-reads
-use Rattle.workbook.proofs.check_with.Reads as check-with-reads
 
 -- src/lib.rt:333:11
 check-with-requires : tie.Need-check-with-requires

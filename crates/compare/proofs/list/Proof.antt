@@ -5,11 +5,6 @@ use lib.ListN.{length}
 use Prim.Native.Nat.{_+_, _-_}
 use Rattle.compare.proofs.list.Statement.{statement}
 use Rattle.compare.proofs.list.Tie as tie
-use Rattle.compare.proofs.list.Reads as reads
-use Rattle.compare.proofs.list.Lts as lts
-use Rattle.compare.proofs.either.Reads as either-reads
-use Rattle.compare.proofs.put_sheet.Reads as put-sheet-reads
-use Rattle.compare.proofs.sheet_at.Reads as sheet-at-reads
 
 abbrev Inv-loop : tie.InvT-loop
 Inv-loop s p m z f t q n u g up common from out₀ a₀ b₀ number₀ j₀ out a b number j = Listing s p t q from out₀ out a b number j

@@ -3,10 +3,6 @@ use native.Mathlib.Omega.{arith}
 use borrow.Author.Needs.{needs}
 use Rattle.compare.proofs.list_both.Statement.{statement}
 use Rattle.compare.proofs.list_both.Tie as tie
-use Rattle.compare.proofs.list_both.Reads as reads
-use Rattle.compare.proofs.list_both.Lts as lts
-use Rattle.compare.proofs.list_marked.Reads as list-marked-reads
-use Rattle.leading.proofs.leading.Reads as leading-reads
 
 leading-requires : tie.Need-leading-requires
 leading-requires c κs = search needs

@@ -1,10 +1,6 @@
 use borrow.Author.Needs.{needs}
 use Rattle.compare.proofs.list_marked.Statement.{statement}
 use Rattle.compare.proofs.list_marked.Tie as tie
-use Rattle.compare.proofs.list_marked.Reads as reads
-use Rattle.compare.proofs.list_marked.Lts as lts
-use Rattle.compare.proofs.list.Reads as list-reads
-use Rattle.equality.proofs.mark_table.Reads as mark-table-reads
 
 -- src/lib.rt:376:9
 mark-table-requires : tie.Need-mark-table-requires

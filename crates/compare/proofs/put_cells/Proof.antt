@@ -3,11 +3,6 @@ use Rattle.compare.proofs.Laws.{seen-from, seen-none, to-are, puts-are,
 use borrow.Author.Needs.{needs}
 use Rattle.compare.proofs.put_cells.Statement.{statement}
 use Rattle.compare.proofs.put_cells.Tie as tie
-use Rattle.compare.proofs.put_cells.Reads as reads
-use Rattle.compare.proofs.put_cells.Lts as lts
-use Rattle.compare.proofs.past.Reads as past-reads
-use Rattle.ascending.proofs.merge.Reads as ascending-merge-reads
-use Rattle.unordered.proofs.merge_cells.Reads as merge-cells-reads
 
 add-if1 : tie.Need-add-if1
 add-if1 c = search needs

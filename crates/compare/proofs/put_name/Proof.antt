@@ -2,10 +2,6 @@ use Rattle.compare.proofs.Laws.{name-laws}
 use borrow.Author.Needs.{needs}
 use Rattle.compare.proofs.put_name.Statement.{statement}
 use Rattle.compare.proofs.put_name.Tie as tie
-use Rattle.compare.proofs.put_name.Reads as reads
-use Rattle.compare.proofs.put_name.Lts as lts
-use Rattle.compare.proofs.same_names.Reads as same-names-reads
-use Rattle.merge.proofs.put.Reads as put-reads
 
 -- src/lib.rt:105:16
 same-names-requires : tie.Need-same-names-requires

@@ -2,10 +2,6 @@ use Rattle.compare.proofs.Laws.{sheet-named, unnamed, to-are, puts-are}
 use borrow.Author.Needs.{needs}
 use Rattle.compare.proofs.put_sheet.Statement.{statement}
 use Rattle.compare.proofs.put_sheet.Tie as tie
-use Rattle.compare.proofs.put_sheet.Reads as reads
-use Rattle.compare.proofs.put_sheet.Lts as lts
-use Rattle.compare.proofs.put_cells.Reads as put-cells-reads
-use Rattle.compare.proofs.put_name.Reads as put-name-reads
 
 -- src/lib.rt:164:13
 put-name-requires : tie.Need-put-name-requires

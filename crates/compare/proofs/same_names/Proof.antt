@@ -2,10 +2,6 @@ use Rattle.compare.proofs.Laws.{names-are}
 use borrow.Author.Needs.{needs}
 use Rattle.compare.proofs.same_names.Statement.{statement}
 use Rattle.compare.proofs.same_names.Tie as tie
-use Rattle.compare.proofs.same_names.Reads as reads
-use Rattle.compare.proofs.same_names.Lts as lts
-use Rattle.listing.proofs.name_at.Reads as name-at-reads
-use Rattle.characters.proofs.same_name.Reads as same-name-reads
 
 -- src/lib.rt:92:9
 name-at-requires : tie.Need-name-at-requires

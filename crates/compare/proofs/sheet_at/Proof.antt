@@ -2,9 +2,6 @@ use Rattle.compare.proofs.Laws.{seen-laws}
 use borrow.Author.Needs.{needs}
 use Rattle.compare.proofs.sheet_at.Statement.{statement}
 use Rattle.compare.proofs.sheet_at.Tie as tie
-use Rattle.compare.proofs.sheet_at.Reads as reads
-use Rattle.compare.proofs.sheet_at.Lts as lts
-use Rattle.listing.proofs.next_sheet.Reads as next-sheet-reads
 
 -- src/lib.rt:43:11
 next-sheet-requires : tie.Need-next-sheet-requires

@@ -9,10 +9,6 @@ use Prim.Native.Nat.{_-_}
 use mathlib.Core.Path.{_≡_, refl}
 use Rattle.compare.proofs.twice_in.Statement.{statement}
 use Rattle.compare.proofs.twice_in.Tie as tie
-use Rattle.compare.proofs.twice_in.Reads as reads
-use Rattle.compare.proofs.twice_in.Lts as lts
-use Rattle.compare.proofs.sheet_at.Reads as sheet-at-reads
-use Rattle.doubles.proofs.twice.Reads as twice-reads
 
 abbrev Inv-loop : tie.InvT-loop
 Inv-loop s up a₀ a = twiceIn (map (sheetReading s) (sheetsOf s)) ≡ twiceIn (map (sheetReading s) (sheetsFrom s a))

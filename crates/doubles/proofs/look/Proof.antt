@@ -2,10 +2,6 @@ use Rattle.doubles.proofs.Laws.{look-laws}
 use borrow.Author.Needs.{needs}
 use Rattle.doubles.proofs.look.Statement.{statement}
 use Rattle.doubles.proofs.look.Tie as tie
-use Rattle.doubles.proofs.look.Reads as reads
-use Rattle.doubles.proofs.look.Lts as lts
-use Rattle.doubles.proofs.mark.Reads as mark-reads
-use Rattle.le.proofs.u16_as_usize.Reads as u16-as-usize-reads
 
 -- src/lib.rt:40:9
 u16-as-usize-requires : tie.Need-u16-as-usize-requires

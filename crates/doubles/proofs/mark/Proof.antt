@@ -1,6 +1,5 @@
 use Rattle.doubles.proofs.Laws.{Marking, mark-start, mark-found, mark-done, mark-turn}
 use borrow.Author.Needs.{needs}
-use native.Mathlib.Omega.{arith}
 use Prim.Native.Nat.{_-_}
 use Rattle.doubles.proofs.mark.Statement.{statement}
 use Rattle.doubles.proofs.mark.Tie as tie

@@ -2,7 +2,6 @@ use Rattle.reading.specs.Cells.{placeAt, listedFrom}
 use Rattle.doubles.proofs.Laws.{Passing, pass-laws}
 use lib.ListN.{length}
 use borrow.Author.Needs.{needs}
-use native.Mathlib.Omega.{arith}
 use Prim.Native.Nat.{_-_}
 use Rattle.doubles.proofs.pass.Statement.{statement}
 use Rattle.doubles.proofs.pass.Tie as tie

@@ -2,10 +2,6 @@ use Rattle.equality.proofs.Laws.{chars-none, chars-string}
 use borrow.Author.Needs.{needs}
 use Rattle.equality.proofs.chars_at.Statement.{statement}
 use Rattle.equality.proofs.chars_at.Tie as tie
-use Rattle.equality.proofs.chars_at.Reads as reads
-use Rattle.equality.proofs.chars_at.Lts as lts
-use Rattle.equality.proofs.chars_of.Reads as chars-of-reads
-use Rattle.equality.proofs.string_place.Reads as string-place-reads
 
 -- src/lib.rt:127:9
 returns : tie.Need-returns

@@ -2,11 +2,6 @@ use Rattle.equality.proofs.Laws.{mark-laws}
 use borrow.Author.Needs.{needs}
 use Rattle.equality.proofs.mark_table.Statement.{statement}
 use Rattle.equality.proofs.mark_table.Tie as tie
-use Rattle.equality.proofs.mark_table.Reads as reads
-use Rattle.equality.proofs.mark_table.Lts as lts
-use Rattle.equality.proofs.table_end.Reads as table-end-reads
-use Rattle.le.proofs.u32_as_usize.Reads as u32-as-usize-reads
-use Rattle.marks.proofs.fill.Reads as fill-reads
 
 -- src/lib.rt:81:9
 returns : tie.Need-returns

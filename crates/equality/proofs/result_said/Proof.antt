@@ -2,11 +2,6 @@ use Rattle.equality.proofs.Laws.{said-laws}
 use borrow.Author.Needs.{needs}
 use Rattle.equality.proofs.result_said.Statement.{statement}
 use Rattle.equality.proofs.result_said.Tie as tie
-use Rattle.equality.proofs.result_said.Reads as reads
-use Rattle.equality.proofs.result_said.Lts as lts
-use Rattle.equality.proofs.plain.Reads as plain-reads
-use Rattle.le.proofs.byte_as_u64.Reads as byte-as-u64-reads
-use Rattle.number.proofs.bits_of.Reads as bits-of-reads
 
 -- src/lib.rt:37:31
 enum-known-r : tie.Need-enum-known-r

@@ -2,10 +2,6 @@ use Rattle.characters.proofs.TextResults.{read-same}
 use borrow.Author.Needs.{needs}
 use Rattle.equality.proofs.same_text.Statement.{statement}
 use Rattle.equality.proofs.same_text.Tie as tie
-use Rattle.equality.proofs.same_text.Reads as reads
-use Rattle.equality.proofs.same_text.Lts as lts
-use Rattle.equality.proofs.chars_at.Reads as chars-at-reads
-use Rattle.characters.proofs.same_chars.Reads as same-chars-reads
 
 -- src/lib.rt:159:9
 chars-at-requires : tie.Need-chars-at-requires

@@ -2,10 +2,6 @@ use Rattle.equality.proofs.Laws.{value-laws}
 use borrow.Author.Needs.{needs}
 use Rattle.equality.proofs.same_value.Statement.{statement}
 use Rattle.equality.proofs.same_value.Tie as tie
-use Rattle.equality.proofs.same_value.Reads as reads
-use Rattle.equality.proofs.same_value.Lts as lts
-use Rattle.equality.proofs.same_text.Reads as same-text-reads
-use Rattle.equality.proofs.value_said.Reads as value-said-reads
 
 -- src/lib.rt:182:9
 value-said-requires : tie.Need-value-said-requires

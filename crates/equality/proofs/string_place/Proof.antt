@@ -2,11 +2,6 @@ use Rattle.equality.proofs.Laws.{place-laws}
 use borrow.Author.Needs.{needs}
 use Rattle.equality.proofs.string_place.Statement.{statement}
 use Rattle.equality.proofs.string_place.Tie as tie
-use Rattle.equality.proofs.string_place.Reads as reads
-use Rattle.equality.proofs.string_place.Lts as lts
-use Rattle.equality.proofs.table_end.Reads as table-end-reads
-use Rattle.le.proofs.u32_as_usize.Reads as u32-as-usize-reads
-use Rattle.marks.proofs.place.Reads as place-reads
 
 -- src/lib.rt:95:9
 table-end-requires : tie.Need-table-end-requires

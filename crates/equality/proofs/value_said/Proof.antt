@@ -2,12 +2,6 @@ use Rattle.equality.proofs.Laws.{said-laws}
 use borrow.Author.Needs.{needs}
 use Rattle.equality.proofs.value_said.Statement.{statement}
 use Rattle.equality.proofs.value_said.Tie as tie
-use Rattle.equality.proofs.value_said.Reads as reads
-use Rattle.equality.proofs.value_said.Lts as lts
-use Rattle.equality.proofs.plain.Reads as plain-reads
-use Rattle.equality.proofs.result_said.Reads as result-said-reads
-use Rattle.le.proofs.byte_as_u64.Reads as byte-as-u64-reads
-use Rattle.number.proofs.bits_of.Reads as bits-of-reads
 
 -- src/lib.rt:50:29
 enum-told : tie.Need-enum-told

@@ -3,8 +3,6 @@ use Prim.Native.Nat.{_-_}
 use borrow.Author.Needs.{needs}
 use Rattle.flags.proofs.clear.Statement.{statement}
 use Rattle.flags.proofs.clear.Tie as tie
-use Rattle.flags.proofs.clear.Reads as reads
-use Rattle.flags.proofs.clear.Lts as lts
 
 abbrev Inv-loop : tie.InvT-loop
 Inv-loop flags₀ n i₀ flags i = Clearing n flags i

@@ -2,8 +2,6 @@ use Rattle.flags.proofs.Laws.{flag-read}
 use borrow.Author.Needs.{needs}
 use Rattle.flags.proofs.flag_at.Statement.{statement}
 use Rattle.flags.proofs.flag_at.Tie as tie
-use Rattle.flags.proofs.flag_at.Reads as reads
-use Rattle.flags.proofs.flag_at.Lts as lts
 
 -- src/lib.rt:13:6
 mul-result : tie.Need-mul-result

@@ -2,8 +2,6 @@ use Rattle.flags.proofs.Laws.{ones-laws}
 use borrow.Author.Needs.{needs}
 use Rattle.flags.proofs.ones_below.Statement.{statement}
 use Rattle.flags.proofs.ones_below.Tie as tie
-use Rattle.flags.proofs.ones_below.Reads as reads
-use Rattle.flags.proofs.ones_below.Lts as lts
 
 -- src/lib.rt:51:17
 shl-mask : tie.Need-shl-mask

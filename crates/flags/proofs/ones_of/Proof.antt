@@ -2,8 +2,6 @@ use Rattle.flags.proofs.Laws.{ones-laws}
 use borrow.Author.Needs.{needs}
 use Rattle.flags.proofs.ones_of.Statement.{statement}
 use Rattle.flags.proofs.ones_of.Tie as tie
-use Rattle.flags.proofs.ones_of.Reads as reads
-use Rattle.flags.proofs.ones_of.Lts as lts
 
 -- src/lib.rt:43:5
 cast-result : tie.Need-cast-result

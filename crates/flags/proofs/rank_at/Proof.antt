@@ -2,9 +2,6 @@ use Rattle.flags.proofs.Laws.{rank-at-laws}
 use borrow.Author.Needs.{needs}
 use Rattle.flags.proofs.rank_at.Statement.{statement}
 use Rattle.flags.proofs.rank_at.Tie as tie
-use Rattle.flags.proofs.rank_at.Reads as reads
-use Rattle.flags.proofs.rank_at.Lts as lts
-use Rattle.flags.proofs.ones_below.Reads as ones-below-reads
 
 -- src/lib.rt:78:5
 mul-result : tie.Need-mul-result

@@ -3,9 +3,6 @@ use Rattle.flags.proofs.Laws.{rank-laws, Ranking}
 use borrow.Author.Needs.{needs}
 use Rattle.flags.proofs.rank_words.Statement.{statement}
 use Rattle.flags.proofs.rank_words.Tie as tie
-use Rattle.flags.proofs.rank_words.Reads as reads
-use Rattle.flags.proofs.rank_words.Lts as lts
-use Rattle.flags.proofs.ones_of.Reads as ones-of-reads
 
 abbrev Inv-loop : tie.InvT-loop
 Inv-loop flags start ranks₀ n r₀ j₀ ranks r j = Ranking flags start n ranks r j

@@ -2,8 +2,6 @@ use Rattle.flags.proofs.Laws.{one-laws}
 use borrow.Author.Needs.{needs}
 use Rattle.flags.proofs.set_flag.Statement.{statement}
 use Rattle.flags.proofs.set_flag.Tie as tie
-use Rattle.flags.proofs.set_flag.Reads as reads
-use Rattle.flags.proofs.set_flag.Lts as lts
 
 -- src/lib.rt:22:20
 mul-flags : tie.Need-mul-flags

@@ -1,4 +1,3 @@
-use borrow.Author.Needs.{needs}
 use Rattle.walk.proofs.Choice.{tests}
 use Rattle.globals.specs.Sheets.{typeKind}
 use Rattle.walk.specs.Choice.{pick}

@@ -2,9 +2,6 @@ use Rattle.leading.proofs.Laws.{after-inside, after-not, after-reached}
 use borrow.Author.Needs.{needs}
 use Rattle.leading.proofs.after.Statement.{statement}
 use Rattle.leading.proofs.after.Tie as tie
-use Rattle.leading.proofs.after.Reads as reads
-use Rattle.leading.proofs.after.Lts as lts
-use Rattle.strings.proofs.skip_strings.Reads as skip-strings-reads
 
 -- src/lib.rt:44:11
 skip-strings-requires : tie.Need-skip-strings-requires

@@ -2,10 +2,6 @@ use Rattle.equality.proofs.Laws.{chars-string}
 use borrow.Author.Needs.{needs}
 use Rattle.leading.proofs.chars_here.Statement.{statement}
 use Rattle.leading.proofs.chars_here.Tie as tie
-use Rattle.leading.proofs.chars_here.Reads as reads
-use Rattle.leading.proofs.chars_here.Lts as lts
-use Rattle.equality.proofs.chars_of.Reads as chars-of-reads
-use Rattle.leading.proofs.string_here.Reads as string-here-reads
 
 -- src/lib.rt:35:9
 string-here-requires : tie.Need-string-here-requires

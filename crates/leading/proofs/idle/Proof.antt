@@ -2,9 +2,6 @@ use Rattle.walk.proofs.Choice.{never}
 use borrow.Author.Needs.{needs}
 use Rattle.leading.proofs.idle.Statement.{statement}
 use Rattle.leading.proofs.idle.Tie as tie
-use Rattle.leading.proofs.idle.Reads as reads
-use Rattle.leading.proofs.idle.Lts as lts
-use Rattle.le.proofs.u32_as_usize.Reads as u32-as-usize-reads
 
 -- src/lib.rt:93:9
 returns : tie.Need-returns

@@ -6,12 +6,6 @@ use Prim.Native.Nat.{_-_, _<_}
 use borrow.Author.Needs.{needs}
 use Rattle.leading.proofs.leading.Statement.{statement}
 use Rattle.leading.proofs.leading.Tie as tie
-use Rattle.leading.proofs.leading.Reads as reads
-use Rattle.leading.proofs.leading.Lts as lts
-use Rattle.leading.proofs.idle.Reads as idle-reads
-use Rattle.leading.proofs.after.Reads as after-reads
-use Rattle.leading.proofs.same_string.Reads as same-string-reads
-use Rattle.leading.proofs.start.Reads as start-reads
 
 abbrev Inv-loop : tie.InvT-loop
 Inv-loop s p m t q n c₀ d₀ i₀ c d i = (i < m) × (i < n) × Reached s p i c × Reached t q i d × Shared s p t q i

@@ -2,10 +2,6 @@ use Rattle.characters.proofs.TextResults.{read-same}
 use borrow.Author.Needs.{needs}
 use Rattle.leading.proofs.same_string.Statement.{statement}
 use Rattle.leading.proofs.same_string.Tie as tie
-use Rattle.leading.proofs.same_string.Reads as reads
-use Rattle.leading.proofs.same_string.Lts as lts
-use Rattle.characters.proofs.same_chars.Reads as same-chars-reads
-use Rattle.leading.proofs.chars_here.Reads as chars-here-reads
 
 -- src/lib.rt:68:9
 chars-here-requires : tie.Need-chars-here-requires

@@ -2,9 +2,6 @@ use Rattle.leading.proofs.Laws.{start-whole, start-fits, start-reached}
 use borrow.Author.Needs.{needs}
 use Rattle.leading.proofs.start.Statement.{statement}
 use Rattle.leading.proofs.start.Tie as tie
-use Rattle.leading.proofs.start.Reads as reads
-use Rattle.leading.proofs.start.Lts as lts
-use Rattle.equality.proofs.table_end.Reads as table-end-reads
 
 -- src/lib.rt:78:9
 table-end-requires : tie.Need-table-end-requires

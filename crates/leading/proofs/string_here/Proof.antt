@@ -2,9 +2,6 @@ use Rattle.leading.proofs.Laws.{reached-inside, here-not, here-stands}
 use borrow.Author.Needs.{needs}
 use Rattle.leading.proofs.string_here.Statement.{statement}
 use Rattle.leading.proofs.string_here.Tie as tie
-use Rattle.leading.proofs.string_here.Reads as reads
-use Rattle.leading.proofs.string_here.Lts as lts
-use Rattle.strings.proofs.next_place.Reads as next-place-reads
 
 -- src/lib.rt:21:11
 next-place-requires : tie.Need-next-place-requires

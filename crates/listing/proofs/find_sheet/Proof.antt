@@ -1,6 +1,6 @@
 use borrow.Author.Needs.{needs}
 use Rattle.listing.proofs.Laws.{sought-laws}
-use mathlib.Core.Path.{_≡_, refl}
+use mathlib.Core.Path.{_≡_}
 use Prim.Native.Nat.{_-_}
 use lib.ListN.{length}
 use Rattle.walk.specs.Items.{nth}

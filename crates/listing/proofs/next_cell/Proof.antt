@@ -2,7 +2,7 @@ use borrow.Author.Needs.{needs}
 use Rattle.listing.proofs.Laws.{next-laws}
 use Rattle.reading.specs.Cells.{remaining}
 use Rattle.listing.specs.Listing.{nextOf}
-use mathlib.Core.Path.{_≡_, refl}
+use mathlib.Core.Path.{_≡_}
 use Rattle.listing.proofs.next_cell.Statement.{statement}
 use Rattle.listing.proofs.next_cell.Tie as tie
 

@@ -2,9 +2,6 @@ use Rattle.marking.proofs.Marks.{byte-none}
 use borrow.Author.Needs.{needs}
 use Rattle.marking.proofs.byte_or.Statement.{statement}
 use Rattle.marking.proofs.byte_or.Tie as tie
-use Rattle.marking.proofs.byte_or.Reads as reads
-use Rattle.marking.proofs.byte_or.Lts as lts
-use Rattle.le.proofs.byte_as_u32.Reads as byte-as-u32-reads
 
 -- src/lib.rt:19:32
 shared-slice-read-byte-as-u32 : tie.Need-shared-slice-read-byte-as-u32

@@ -2,10 +2,6 @@ use Rattle.marking.proofs.Marks.{all-flagged, flagged-length}
 use borrow.Author.Needs.{needs}
 use Rattle.marking.proofs.mark.Statement.{statement}
 use Rattle.marking.proofs.mark.Tie as tie
-use Rattle.marking.proofs.mark.Reads as reads
-use Rattle.marking.proofs.mark.Lts as lts
-use Rattle.flags.proofs.clear.Reads as clear-reads
-use Rattle.marking.proofs.mark_more.Reads as mark-more-reads
 
 -- src/lib.rt:96:5
 clear-requires : tie.Need-clear-requires

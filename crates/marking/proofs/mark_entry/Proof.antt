@@ -2,11 +2,6 @@ use Rattle.marking.proofs.Marks.{entry-laws}
 use borrow.Author.Needs.{needs}
 use Rattle.marking.proofs.mark_entry.Statement.{statement}
 use Rattle.marking.proofs.mark_entry.Tie as tie
-use Rattle.marking.proofs.mark_entry.Reads as reads
-use Rattle.marking.proofs.mark_entry.Lts as lts
-use Rattle.le.proofs.u32_as_usize.Reads as u32-as-usize-reads
-use Rattle.marking.proofs.mark_one.Reads as mark-one-reads
-use Rattle.marking.proofs.word_at.Reads as word-at-reads
 
 -- src/lib.rt:50:32
 enum-told : tie.Need-enum-told

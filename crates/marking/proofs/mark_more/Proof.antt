@@ -4,10 +4,6 @@ use Prim.Native.Nat.{_-_}
 use lib.ListN.{length}
 use Rattle.marking.proofs.mark_more.Statement.{statement}
 use Rattle.marking.proofs.mark_more.Tie as tie
-use Rattle.marking.proofs.mark_more.Reads as reads
-use Rattle.marking.proofs.mark_more.Lts as lts
-use Rattle.marking.proofs.mark_entry.Reads as mark-entry-reads
-use Rattle.spots.proofs.step_at.Reads as step-at-reads
 
 abbrev Inv-loop : tie.InvT-loop
 Inv-loop s base flags₀ w₀ flags w = Marking s base flags₀ w flags

@@ -2,9 +2,6 @@ use Rattle.marking.proofs.Marks.{one-laws}
 use borrow.Author.Needs.{needs}
 use Rattle.marking.proofs.mark_one.Statement.{statement}
 use Rattle.marking.proofs.mark_one.Tie as tie
-use Rattle.marking.proofs.mark_one.Reads as reads
-use Rattle.marking.proofs.mark_one.Lts as lts
-use Rattle.flags.proofs.set_flag.Reads as set-flag-reads
 
 -- src/lib.rt:40:9
 set-flag-requires : tie.Need-set-flag-requires

@@ -2,9 +2,6 @@ use Rattle.marking.proofs.Marks.{word-is}
 use borrow.Author.Needs.{needs}
 use Rattle.marking.proofs.short_word.Statement.{statement}
 use Rattle.marking.proofs.short_word.Tie as tie
-use Rattle.marking.proofs.short_word.Reads as reads
-use Rattle.marking.proofs.short_word.Lts as lts
-use Rattle.marking.proofs.byte_or.Reads as byte-or-reads
 
 -- src/lib.rt:29:9
 byte-or-requires : tie.Need-byte-or-requires

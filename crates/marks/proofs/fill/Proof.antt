@@ -1,13 +1,9 @@
 use Rattle.marks.proofs.Laws.{Filling, fill-start, fill-done, fill-few, fill-inside, fill-low, fill-last, fill-not, fill-turn}
 use borrow.Author.Needs.{needs}
 use native.Mathlib.Omega.{arith}
-use Prim.Native.Nat.{ℕ, _-_}
+use Prim.Native.Nat.{_-_}
 use Rattle.marks.proofs.fill.Statement.{statement}
 use Rattle.marks.proofs.fill.Tie as tie
-use Rattle.marks.proofs.fill.Reads as reads
-use Rattle.marks.proofs.fill.Lts as lts
-use Rattle.marks.proofs.store.Reads as store-reads
-use Rattle.strings.proofs.skip_strings.Reads as skip-strings-reads
 
 abbrev Inv-loop : tie.InvT-loop
 Inv-loop s p e n stride marks₀ c₀ j₀ done₀ marks c j done = Filling s p e stride marks c j done

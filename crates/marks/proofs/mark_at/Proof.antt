@@ -2,9 +2,6 @@ use Rattle.marks.proofs.Laws.{cursor-made}
 use borrow.Author.Needs.{needs}
 use Rattle.marks.proofs.mark_at.Statement.{statement}
 use Rattle.marks.proofs.mark_at.Tie as tie
-use Rattle.marks.proofs.mark_at.Reads as reads
-use Rattle.marks.proofs.mark_at.Lts as lts
-use Rattle.le.proofs.u32_as_usize.Reads as u32-as-usize-reads
 
 -- src/lib.rt:36:21
 mul-seg : tie.Need-mul-seg

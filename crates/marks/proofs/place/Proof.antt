@@ -2,11 +2,6 @@ use Rattle.marks.proofs.Laws.{mark-few, mark-inside, mark-not, mark-on,
 use borrow.Author.Needs.{needs}
 use Rattle.marks.proofs.place.Statement.{statement}
 use Rattle.marks.proofs.place.Tie as tie
-use Rattle.marks.proofs.place.Reads as reads
-use Rattle.marks.proofs.place.Lts as lts
-use Rattle.marks.proofs.mark_at.Reads as mark-at-reads
-use Rattle.strings.proofs.next_place.Reads as next-place-reads
-use Rattle.strings.proofs.skip_strings.Reads as skip-strings-reads
 
 -- src/lib.rt:71:13
 div-j : tie.Need-div-j

@@ -2,9 +2,6 @@ use Rattle.marks.proofs.Laws.{stored-made}
 use borrow.Author.Needs.{needs}
 use Rattle.marks.proofs.store.Statement.{statement}
 use Rattle.marks.proofs.store.Tie as tie
-use Rattle.marks.proofs.store.Reads as reads
-use Rattle.marks.proofs.store.Lts as lts
-use Rattle.marks.proofs.narrow.Reads as narrow-reads
 
 -- src/lib.rt:24:9
 narrow-requires : tie.Need-narrow-requires

@@ -6,15 +6,8 @@ use Rattle.windows.specs.Windows.{sideList}
 use borrow.Author.Needs.{needs}
 use native.Mathlib.Omega.{arith}
 use Prim.Native.Nat.{_-_}
-use mathlib.Core.Path.{_≡_, refl, sym}
 use Rattle.merge.proofs.merge.Statement.{statement}
 use Rattle.merge.proofs.merge.Tie as tie
-use Rattle.merge.proofs.merge.Reads as reads
-use Rattle.merge.proofs.merge.Lts as lts
-use Rattle.merge.proofs.put.Reads as put-reads
-use Rattle.merge.proofs.put_unequal.Reads as put-unequal-reads
-use Rattle.merge.proofs.turn_of.Reads as turn-of-reads
-use Rattle.windows.proofs.advance.Reads as advance-reads
 
 abbrev Inv-loop : tie.InvT-loop
 Inv-loop s v up a ac p m z f t w down b bc q n u g base from high i out₀ x₀ y₀ k₀ j₀ out x y k j = Going s (sideList s v up a ac high) (listedFrom s (placeAt v 0)) (stringsAt s p) t (sideList t w down b bc high) (listedFrom t (placeAt w 0)) (stringsAt t q) base from i out₀ up down out x y k j

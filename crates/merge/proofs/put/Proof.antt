@@ -2,8 +2,6 @@ use Rattle.merge.proofs.Puts.{put-laws}
 use borrow.Author.Needs.{needs}
 use Rattle.merge.proofs.put.Statement.{statement}
 use Rattle.merge.proofs.put.Tie as tie
-use Rattle.merge.proofs.put.Reads as reads
-use Rattle.merge.proofs.put.Lts as lts
 
 -- src/lib.rt:45:9
 mul-out : tie.Need-mul-out

@@ -2,10 +2,6 @@ use Rattle.merge.proofs.Laws.{unequal-laws}
 use borrow.Author.Needs.{needs}
 use Rattle.merge.proofs.put_unequal.Statement.{statement}
 use Rattle.merge.proofs.put_unequal.Tie as tie
-use Rattle.merge.proofs.put_unequal.Reads as reads
-use Rattle.merge.proofs.put_unequal.Lts as lts
-use Rattle.equality.proofs.same_cell.Reads as same-cell-reads
-use Rattle.merge.proofs.put.Reads as put-reads
 
 -- src/lib.rt:68:8
 same-cell-requires : tie.Need-same-cell-requires

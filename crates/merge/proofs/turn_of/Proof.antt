@@ -2,8 +2,6 @@ use Rattle.merge.proofs.Laws.{turn-laws}
 use borrow.Author.Needs.{needs}
 use Rattle.merge.proofs.turn_of.Statement.{statement}
 use Rattle.merge.proofs.turn_of.Tie as tie
-use Rattle.merge.proofs.turn_of.Reads as reads
-use Rattle.merge.proofs.turn_of.Lts as lts
 
 -- src/lib.rt:27:9
 returns : tie.Need-returns

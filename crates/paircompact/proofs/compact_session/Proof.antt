@@ -2,9 +2,6 @@ use Rattle.paircompact.proofs.Laws.{asked-laws}
 use borrow.Author.Needs.{needs}
 use Rattle.paircompact.proofs.compact_session.Statement.{statement}
 use Rattle.paircompact.proofs.compact_session.Tie as tie
-use Rattle.paircompact.proofs.compact_session.Reads as reads
-use Rattle.paircompact.proofs.compact_session.Lts as lts
-use Rattle.compacting.proofs.compact_checked.Reads as compact-checked-reads
 
 -- src/lib.rt:23:11
 compact-checked-requires : tie.Need-compact-checked-requires

@@ -2,11 +2,6 @@ use Rattle.paircompact.proofs.Laws.{pair-laws, session-passed}
 use borrow.Author.Needs.{needs}
 use Rattle.paircompact.proofs.pair_compact.Statement.{statement}
 use Rattle.paircompact.proofs.pair_compact.Tie as tie
-use Rattle.paircompact.proofs.pair_compact.Reads as reads
-use Rattle.paircompact.proofs.pair_compact.Lts as lts
-use Rattle.pair.proofs.of_stream.Reads as of-stream-reads
-use Rattle.pair.proofs.pair_check.Reads as pair-check-reads
-use Rattle.paircompact.proofs.compact_session.Reads as compact-session-reads
 
 -- src/lib.rt:38:11
 pair-check-requires : tie.Need-pair-check-requires

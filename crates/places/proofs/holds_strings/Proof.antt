@@ -1,5 +1,4 @@
 use Rattle.walk.proofs.Choice.{picks}
-use borrow.Author.Needs.{needs}
 use Rattle.places.proofs.holds_strings.Statement.{statement}
 use Rattle.places.proofs.holds_strings.Tie as tie
 

@@ -2,8 +2,6 @@ use Rattle.places.proofs.Laws.{entry-second}
 use borrow.Author.Needs.{needs}
 use Rattle.places.proofs.put_entry.Statement.{statement}
 use Rattle.places.proofs.put_entry.Tie as tie
-use Rattle.places.proofs.put_entry.Reads as reads
-use Rattle.places.proofs.put_entry.Lts as lts
 
 -- src/lib.rt:37:5
 mul-table : tie.Need-mul-table

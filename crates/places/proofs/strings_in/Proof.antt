@@ -1,6 +1,5 @@
 use Rattle.walk.proofs.Choice.{picks}
 use Rattle.places.specs.Parts.{countOf}
-use borrow.Author.Needs.{needs}
 use Rattle.places.proofs.strings_in.Statement.{statement}
 use Rattle.places.proofs.strings_in.Tie as tie
 

@@ -2,11 +2,6 @@ use Rattle.reindexing.proofs.Laws.{count-laws}
 use borrow.Author.Needs.{needs}
 use Rattle.reindexing.proofs.census_entry.Statement.{statement}
 use Rattle.reindexing.proofs.census_entry.Tie as tie
-use Rattle.reindexing.proofs.census_entry.Reads as reads
-use Rattle.reindexing.proofs.census_entry.Lts as lts
-use Rattle.le.proofs.u32_as_usize.Reads as u32-as-usize-reads
-use Rattle.marking.proofs.word_at.Reads as word-at-reads
-use Rattle.reindexing.proofs.census_next.Reads as census-next-reads
 
 -- src/lib.rt:38:72
 enum-told : tie.Need-enum-told

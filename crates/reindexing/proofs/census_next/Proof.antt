@@ -2,8 +2,6 @@ use Rattle.reindexing.proofs.Laws.{top-laws}
 use borrow.Author.Needs.{needs}
 use Rattle.reindexing.proofs.census_next.Statement.{statement}
 use Rattle.reindexing.proofs.census_next.Tie as tie
-use Rattle.reindexing.proofs.census_next.Reads as reads
-use Rattle.reindexing.proofs.census_next.Lts as lts
 
 -- src/lib.rt:25:17
 add-total : tie.Need-add-total

@@ -4,10 +4,6 @@ use lib.ListN.{length}
 use borrow.Author.Needs.{needs}
 use Rattle.reindexing.proofs.count_texts.Statement.{statement}
 use Rattle.reindexing.proofs.count_texts.Tie as tie
-use Rattle.reindexing.proofs.count_texts.Reads as reads
-use Rattle.reindexing.proofs.count_texts.Lts as lts
-use Rattle.reindexing.proofs.census_entry.Reads as census-entry-reads
-use Rattle.spots.proofs.step_at.Reads as step-at-reads
 
 abbrev Inv-loop : tie.InvT-loop
 Inv-loop s w₀ c₀ w c = Counting s w c

@@ -3,9 +3,6 @@ use Prim.Native.Nat.{_-_}
 use borrow.Author.Needs.{needs}
 use Rattle.reindexing.proofs.reindex.Statement.{statement}
 use Rattle.reindexing.proofs.reindex.Tie as tie
-use Rattle.reindexing.proofs.reindex.Reads as reads
-use Rattle.reindexing.proofs.reindex.Lts as lts
-use Rattle.reindexing.proofs.reindex_chunk.Reads as reindex-chunk-reads
 
 abbrev Inv-loop : tie.InvT-loop
 Inv-loop s table top flags₀ ranks₀ out₀ k base₀ start₀ flags ranks out base start = Reindexing s table k flags₀ ranks₀ out₀ base start flags ranks out

@@ -2,11 +2,6 @@ use Rattle.reindexing.proofs.Laws.{chunk-laws, start-low}
 use borrow.Author.Needs.{needs}
 use Rattle.reindexing.proofs.reindex_chunk.Statement.{statement}
 use Rattle.reindexing.proofs.reindex_chunk.Tie as tie
-use Rattle.reindexing.proofs.reindex_chunk.Reads as reads
-use Rattle.reindexing.proofs.reindex_chunk.Lts as lts
-use Rattle.flags.proofs.rank_words.Reads as rank-words-reads
-use Rattle.marking.proofs.mark.Reads as mark-reads
-use Rattle.rewriting.proofs.put_indices.Reads as put-indices-reads
 
 mark-requires : tie.Need-mark-requires
 mark-requires c κs = search needs

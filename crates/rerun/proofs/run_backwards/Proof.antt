@@ -1,6 +1,5 @@
 use Rattle.rerun.proofs.Laws.{Running, running-start, back-laws, back-again}
 use Rattle.rerun.proofs.Running.{Backing, backing-start}
-use Prim.Native.Nat.{_-_}
 use borrow.Author.Needs.{needs}
 use Rattle.rerun.proofs.run_backwards.Statement.{statement}
 use Rattle.rerun.proofs.run_backwards.Tie as tie

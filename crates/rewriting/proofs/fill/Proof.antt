@@ -2,9 +2,6 @@ use Rattle.rewriting.proofs.Slots.{first-laws}
 use borrow.Author.Needs.{needs}
 use Rattle.rewriting.proofs.fill.Statement.{statement}
 use Rattle.rewriting.proofs.fill.Tie as tie
-use Rattle.rewriting.proofs.fill.Reads as reads
-use Rattle.rewriting.proofs.fill.Lts as lts
-use Rattle.rewriting.proofs.fill_from.Reads as fill-from-reads
 
 -- src/lib.rt:190:5
 slice-write-slots : tie.Need-slice-write-slots

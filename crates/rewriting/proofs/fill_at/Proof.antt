@@ -2,9 +2,6 @@ use Rattle.rewriting.proofs.Slots.{grown-laws}
 use borrow.Author.Needs.{needs}
 use Rattle.rewriting.proofs.fill_at.Statement.{statement}
 use Rattle.rewriting.proofs.fill_at.Tie as tie
-use Rattle.rewriting.proofs.fill_at.Reads as reads
-use Rattle.rewriting.proofs.fill_at.Lts as lts
-use Rattle.rewriting.proofs.keep.Reads as keep-reads
 
 -- src/lib.rt:143:13
 keep-requires : tie.Need-keep-requires

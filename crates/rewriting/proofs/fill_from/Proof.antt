@@ -4,11 +4,6 @@ use Rattle.rewriting.proofs.Slots.{Filled, fill-laws}
 use borrow.Author.Needs.{needs}
 use Rattle.rewriting.proofs.fill_from.Statement.{statement}
 use Rattle.rewriting.proofs.fill_from.Tie as tie
-use Rattle.rewriting.proofs.fill_from.Reads as reads
-use Rattle.rewriting.proofs.fill_from.Lts as lts
-use Rattle.rewriting.proofs.fill_at.Reads as fill-at-reads
-use Rattle.spots.proofs.size_of.Reads as size-of-reads
-use Rattle.spots.proofs.step_at.Reads as step-at-reads
 
 abbrev Inv-loop : tie.InvT-loop
 Inv-loop s table every slots₀ f₀ w₀ q₀ slots f w q = Filled s table slots₀ w q (f .count) slots

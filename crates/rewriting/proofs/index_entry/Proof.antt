@@ -2,9 +2,6 @@ use Rattle.rewriting.proofs.Laws.{entry-laws}
 use borrow.Author.Needs.{needs}
 use Rattle.rewriting.proofs.index_entry.Statement.{statement}
 use Rattle.rewriting.proofs.index_entry.Tie as tie
-use Rattle.rewriting.proofs.index_entry.Reads as reads
-use Rattle.rewriting.proofs.index_entry.Lts as lts
-use Rattle.rewriting.proofs.put_index.Reads as put-index-reads
 
 -- src/lib.rt:55:56
 enum-told : tie.Need-enum-told

@@ -2,9 +2,6 @@ use Rattle.rewriting.proofs.Slots.{grown-laws}
 use borrow.Author.Needs.{needs}
 use Rattle.rewriting.proofs.keep.Statement.{statement}
 use Rattle.rewriting.proofs.keep.Tie as tie
-use Rattle.rewriting.proofs.keep.Reads as reads
-use Rattle.rewriting.proofs.keep.Lts as lts
-use Rattle.rewriting.proofs.slot_of.Reads as slot-of-reads
 
 -- src/lib.rt:124:9
 returns : tie.Need-returns

@@ -2,10 +2,6 @@ use Rattle.rewriting.proofs.Slots.{found-laws}
 use borrow.Author.Needs.{needs}
 use Rattle.rewriting.proofs.place_by.Statement.{statement}
 use Rattle.rewriting.proofs.place_by.Tie as tie
-use Rattle.rewriting.proofs.place_by.Reads as reads
-use Rattle.rewriting.proofs.place_by.Lts as lts
-use Rattle.rewriting.proofs.seek.Reads as seek-reads
-use Rattle.spots.proofs.place_from.Reads as place-from-reads
 
 -- src/lib.rt:211:19
 seek-requires : tie.Need-seek-requires

@@ -2,9 +2,6 @@ use Rattle.rewriting.proofs.Laws.{entry-laws}
 use borrow.Author.Needs.{needs}
 use Rattle.rewriting.proofs.position_entry.Statement.{statement}
 use Rattle.rewriting.proofs.position_entry.Tie as tie
-use Rattle.rewriting.proofs.position_entry.Reads as reads
-use Rattle.rewriting.proofs.position_entry.Lts as lts
-use Rattle.rewriting.proofs.put_position.Reads as put-position-reads
 
 -- src/lib.rt:113:39
 enum-told : tie.Need-enum-told

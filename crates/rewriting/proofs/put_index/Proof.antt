@@ -2,12 +2,6 @@ use Rattle.rewriting.proofs.Laws.{index-laws}
 use borrow.Author.Needs.{needs}
 use Rattle.rewriting.proofs.put_index.Statement.{statement}
 use Rattle.rewriting.proofs.put_index.Tie as tie
-use Rattle.rewriting.proofs.put_index.Reads as reads
-use Rattle.rewriting.proofs.put_index.Lts as lts
-use Rattle.flags.proofs.rank_at.Reads as rank-at-reads
-use Rattle.le.proofs.put.Reads as put-reads
-use Rattle.le.proofs.u32_as_usize.Reads as u32-as-usize-reads
-use Rattle.marking.proofs.word_at.Reads as word-at-reads
 
 -- src/lib.rt:28:50
 add-word-at : tie.Need-add-word-at

@@ -7,11 +7,6 @@ use Rattle.edits.specs.Edited.{textChange}
 use Rattle.rewriting.specs.Ranks.{rankIn}
 use Rattle.rewriting.proofs.put_indices.Statement.{statement}
 use Rattle.rewriting.proofs.put_indices.Tie as tie
-use Rattle.rewriting.proofs.put_indices.Reads as reads
-use Rattle.rewriting.proofs.put_indices.Lts as lts
-use Rattle.rewriting.proofs.index_entry.Reads as index-entry-reads
-use Rattle.spots.proofs.size_of.Reads as size-of-reads
-use Rattle.spots.proofs.step_at.Reads as step-at-reads
 
 abbrev Inv-loop : tie.InvT-loop
 Inv-loop s table base start flags ranks out₀ w₀ q₀ out w q = Editing s (textChange s (rankIn flags start base) base (length flags * 64)) table out₀ w q out

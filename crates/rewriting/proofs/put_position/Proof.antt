@@ -2,12 +2,6 @@ use Rattle.rewriting.proofs.Laws.{position-laws}
 use borrow.Author.Needs.{needs}
 use Rattle.rewriting.proofs.put_position.Statement.{statement}
 use Rattle.rewriting.proofs.put_position.Tie as tie
-use Rattle.rewriting.proofs.put_position.Reads as reads
-use Rattle.rewriting.proofs.put_position.Lts as lts
-use Rattle.le.proofs.put.Reads as put-reads
-use Rattle.le.proofs.u32_as_usize.Reads as u32-as-usize-reads
-use Rattle.marking.proofs.word_at.Reads as word-at-reads
-use Rattle.rewriting.proofs.place_by.Reads as place-by-reads
 
 -- src/lib.rt:64:52
 add-word-at : tie.Need-add-word-at

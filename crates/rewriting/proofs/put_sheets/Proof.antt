@@ -2,17 +2,11 @@ use Rattle.rewriting.proofs.Laws.{sheets-start}
 use Prim.Native.Nat.{_-_}
 use lib.ListN.{length}
 use Rattle.edits.proofs.Editing.{Editing, edit-laws}
-use Rattle.edits.specs.Edited.{textChange, sheetChange, placeFor}
-use Rattle.rewriting.specs.Ranks.{rankIn}
+use Rattle.edits.specs.Edited.{sheetChange, placeFor}
 use Rattle.compact.specs.Entries.{entriesOf}
 use borrow.Author.Needs.{needs}
 use Rattle.rewriting.proofs.put_sheets.Statement.{statement}
 use Rattle.rewriting.proofs.put_sheets.Tie as tie
-use Rattle.rewriting.proofs.put_sheets.Reads as reads
-use Rattle.rewriting.proofs.put_sheets.Lts as lts
-use Rattle.rewriting.proofs.position_entry.Reads as position-entry-reads
-use Rattle.spots.proofs.size_of.Reads as size-of-reads
-use Rattle.spots.proofs.step_at.Reads as step-at-reads
 
 abbrev Inv-loop : tie.InvT-loop
 Inv-loop s table slots count out₀ w₀ q₀ out w q = Editing s (sheetChange s (placeFor table (entriesOf s))) table out₀ w q out

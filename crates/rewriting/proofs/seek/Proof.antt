@@ -3,8 +3,6 @@ use Rattle.rewriting.proofs.Slots.{Seeking, seek-laws}
 use borrow.Author.Needs.{needs}
 use Rattle.rewriting.proofs.seek.Statement.{statement}
 use Rattle.rewriting.proofs.seek.Tie as tie
-use Rattle.rewriting.proofs.seek.Reads as reads
-use Rattle.rewriting.proofs.seek.Lts as lts
 
 abbrev Inv-loop : tie.InvT-loop
 Inv-loop slots count p low₀ high₀ low high = Seeking slots count p low high

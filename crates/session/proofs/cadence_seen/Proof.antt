@@ -1,5 +1,4 @@
 use Rattle.session.proofs.Laws.{cadence-by}
-use Rattle.walk.proofs.Choice.{refl′}
 use borrow.Author.Needs.{needs}
 use Rattle.session.proofs.cadence_seen.Statement.{statement}
 use Rattle.session.proofs.cadence_seen.Tie as tie

@@ -1,5 +1,4 @@
 use Rattle.session.proofs.Laws.{next-by}
-use Rattle.walk.proofs.Choice.{refl′}
 use borrow.Author.Needs.{needs}
 use Rattle.session.proofs.next_seen.Statement.{statement}
 use Rattle.session.proofs.next_seen.Tie as tie

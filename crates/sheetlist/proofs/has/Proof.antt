@@ -2,9 +2,6 @@ use Rattle.sheetlist.proofs.Laws.{has-laws}
 use borrow.Author.Needs.{needs}
 use Rattle.sheetlist.proofs.has.Statement.{statement}
 use Rattle.sheetlist.proofs.has.Tie as tie
-use Rattle.sheetlist.proofs.has.Reads as reads
-use Rattle.sheetlist.proofs.has.Lts as lts
-use Rattle.sheetlist.proofs.code.Reads as code-reads
 
 -- src/lib.rt:68:9
 returns : tie.Need-returns

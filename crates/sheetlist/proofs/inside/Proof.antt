@@ -2,8 +2,6 @@ use Rattle.sheetlist.proofs.Laws.{inside-laws}
 use borrow.Author.Needs.{needs}
 use Rattle.sheetlist.proofs.inside.Statement.{statement}
 use Rattle.sheetlist.proofs.inside.Tie as tie
-use Rattle.sheetlist.proofs.inside.Reads as reads
-use Rattle.sheetlist.proofs.inside.Lts as lts
 
 -- src/lib.rt:47:9
 returns : tie.Need-returns

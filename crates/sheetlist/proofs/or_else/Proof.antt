@@ -2,8 +2,6 @@ use Rattle.sheetlist.proofs.Laws.{sooner-laws}
 use borrow.Author.Needs.{needs}
 use Rattle.sheetlist.proofs.or_else.Statement.{statement}
 use Rattle.sheetlist.proofs.or_else.Tie as tie
-use Rattle.sheetlist.proofs.or_else.Reads as reads
-use Rattle.sheetlist.proofs.or_else.Lts as lts
 
 -- src/lib.rt:37:29
 enum-told : tie.Need-enum-told

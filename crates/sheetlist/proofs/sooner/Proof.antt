@@ -2,8 +2,6 @@ use Rattle.sheetlist.proofs.Laws.{sooner-laws}
 use borrow.Author.Needs.{needs}
 use Rattle.sheetlist.proofs.sooner.Statement.{statement}
 use Rattle.sheetlist.proofs.sooner.Tie as tie
-use Rattle.sheetlist.proofs.sooner.Reads as reads
-use Rattle.sheetlist.proofs.sooner.Lts as lts
 
 -- src/lib.rt:19:29
 enum-told : tie.Need-enum-told

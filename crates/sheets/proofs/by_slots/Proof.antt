@@ -1,6 +1,5 @@
 use borrow.Author.Needs.{needs}
 use Rattle.sheets.proofs.Laws.{Going, going-laws}
-use mathlib.Core.Path.{_≡_, refl}
 use Prim.Native.Nat.{_-_}
 use lib.ListN.{length}
 use Rattle.sheets.proofs.by_slots.Statement.{statement}

@@ -1,7 +1,7 @@
 use borrow.Author.Needs.{needs}
 use Rattle.sheets.specs.Tops.{tailFrom, tailOf}
 use Rattle.sheets.proofs.Following.{tail-laws}
-use mathlib.Core.Path.{_≡_, refl}
+use mathlib.Core.Path.{_≡_}
 use Prim.Native.Nat.{_-_}
 use lib.ListN.{length}
 use Rattle.sheets.proofs.tops.Statement.{statement}

@@ -3,9 +3,6 @@ use borrow.Author.Needs.{needs}
 use Prim.Native.Nat.{_-_}
 use Rattle.tablechunks.proofs.count_set.Statement.{statement}
 use Rattle.tablechunks.proofs.count_set.Tie as tie
-use Rattle.tablechunks.proofs.count_set.Reads as reads
-use Rattle.tablechunks.proofs.count_set.Lts as lts
-use Rattle.flags.proofs.flag_at.Reads as flag-at-reads
 
 abbrev Inv-loop : tie.InvT-loop
 Inv-loop flags n r₀ i₀ r i = Tallied flags n i r

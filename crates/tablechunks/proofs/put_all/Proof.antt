@@ -5,10 +5,6 @@ use mathlib.Core.Path.{_≡_}
 use lib.ListN.{length}
 use Rattle.tablechunks.proofs.put_all.Statement.{statement}
 use Rattle.tablechunks.proofs.put_all.Tie as tie
-use Rattle.tablechunks.proofs.put_all.Reads as reads
-use Rattle.tablechunks.proofs.put_all.Lts as lts
-use Rattle.tablechunks.proofs.fewer.Reads as fewer-reads
-use Rattle.tablechunks.proofs.put_chunk.Reads as put-chunk-reads
 
 abbrev Inv-loop : tie.InvT-loop
 Inv-loop s unique flags₀ buf₀ n base₀ d₀ e₀ flags buf base d e = Putting s unique d₀ buf₀ e₀ base d buf e × (length flags ≡ length flags₀)

@@ -2,10 +2,6 @@ use Rattle.tablechunks.proofs.Laws.{chunk-laws}
 use borrow.Author.Needs.{needs}
 use Rattle.tablechunks.proofs.put_chunk.Statement.{statement}
 use Rattle.tablechunks.proofs.put_chunk.Tie as tie
-use Rattle.tablechunks.proofs.put_chunk.Reads as reads
-use Rattle.tablechunks.proofs.put_chunk.Lts as lts
-use Rattle.marking.proofs.mark.Reads as mark-reads
-use Rattle.tablewriter.proofs.put_texts.Reads as put-texts-reads
 
 -- src/lib.rt:66:5
 mark-requires : tie.Need-mark-requires

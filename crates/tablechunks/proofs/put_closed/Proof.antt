@@ -2,10 +2,6 @@ use Rattle.tablewriter.proofs.Finish.{all-laws}
 use borrow.Author.Needs.{needs}
 use Rattle.tablechunks.proofs.put_closed.Statement.{statement}
 use Rattle.tablechunks.proofs.put_closed.Tie as tie
-use Rattle.tablechunks.proofs.put_closed.Reads as reads
-use Rattle.tablechunks.proofs.put_closed.Lts as lts
-use Rattle.tablechunks.proofs.put_all.Reads as put-all-reads
-use Rattle.tablewriter.proofs.close.Reads as close-reads
 
 put-all-requires : tie.Need-put-all-requires
 put-all-requires c κs = search needs

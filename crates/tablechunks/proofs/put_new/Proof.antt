@@ -2,10 +2,6 @@ use Rattle.tablewriter.proofs.Finish.{table-laws}
 use borrow.Author.Needs.{needs}
 use Rattle.tablechunks.proofs.put_new.Statement.{statement}
 use Rattle.tablechunks.proofs.put_new.Tie as tie
-use Rattle.tablechunks.proofs.put_new.Reads as reads
-use Rattle.tablechunks.proofs.put_new.Lts as lts
-use Rattle.tablechunks.proofs.put_closed.Reads as put-closed-reads
-use Rattle.tablewriter.proofs.open_table.Reads as open-table-reads
 
 open-table-requires : tie.Need-open-table-requires
 open-table-requires c κs = search (table-laws, needs)

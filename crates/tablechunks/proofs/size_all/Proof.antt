@@ -5,11 +5,6 @@ use lib.ListN.{length}
 use borrow.Author.Needs.{needs}
 use Rattle.tablechunks.proofs.size_all.Statement.{statement}
 use Rattle.tablechunks.proofs.size_all.Tie as tie
-use Rattle.tablechunks.proofs.size_all.Reads as reads
-use Rattle.tablechunks.proofs.size_all.Lts as lts
-use Rattle.tablechunks.proofs.count_set.Reads as count-set-reads
-use Rattle.tablechunks.proofs.fewer.Reads as fewer-reads
-use Rattle.tablechunks.proofs.size_chunk.Reads as size-chunk-reads
 
 abbrev Inv-loop : tie.InvT-loop
 Inv-loop s unique flags₀ n base₀ count₀ d₀ g₀ flags base count d g = Sizing s unique d₀ base count d g × (length flags ≡ length flags₀)

@@ -2,10 +2,6 @@ use Rattle.tablechunks.proofs.Laws.{chunk-laws}
 use borrow.Author.Needs.{needs}
 use Rattle.tablechunks.proofs.size_chunk.Statement.{statement}
 use Rattle.tablechunks.proofs.size_chunk.Tie as tie
-use Rattle.tablechunks.proofs.size_chunk.Reads as reads
-use Rattle.tablechunks.proofs.size_chunk.Lts as lts
-use Rattle.marking.proofs.mark.Reads as mark-reads
-use Rattle.tablesize.proofs.size_texts.Reads as size-texts-reads
 
 -- src/lib.rt:48:5
 mark-requires : tie.Need-mark-requires

@@ -2,12 +2,6 @@ use Rattle.tablesize.proofs.Laws.{chars-laws}
 use borrow.Author.Needs.{needs}
 use Rattle.tablesize.proofs.size_chars.Statement.{statement}
 use Rattle.tablesize.proofs.size_chars.Tie as tie
-use Rattle.tablesize.proofs.size_chars.Reads as reads
-use Rattle.tablesize.proofs.size_chars.Lts as lts
-use Rattle.tablesize.proofs.size_items.Reads as size-items-reads
-use Rattle.tablesize.proofs.size_piece.Reads as size-piece-reads
-use Rattle.tablewriter.proofs.start_size.Reads as start-size-reads
-use Rattle.tablewriter.proofs.wide_bit.Reads as wide-bit-reads
 
 -- src/lib.rt:71:13
 wide-bit-requires : tie.Need-wide-bit-requires

@@ -2,9 +2,6 @@ use Rattle.tablesize.proofs.Laws.{whole-laws}
 use borrow.Author.Needs.{needs}
 use Rattle.tablesize.proofs.size_items.Statement.{statement}
 use Rattle.tablesize.proofs.size_items.Tie as tie
-use Rattle.tablesize.proofs.size_items.Reads as reads
-use Rattle.tablesize.proofs.size_items.Lts as lts
-use Rattle.tablesize.proofs.size_over.Reads as size-over-reads
 
 -- src/lib.rt:72:17
 mul-b : tie.Need-mul-b

@@ -2,9 +2,6 @@ use Rattle.tablesize.proofs.Counting.{mark-laws}
 use borrow.Author.Needs.{needs}
 use Rattle.tablesize.proofs.size_marked.Statement.{statement}
 use Rattle.tablesize.proofs.size_marked.Tie as tie
-use Rattle.tablesize.proofs.size_marked.Reads as reads
-use Rattle.tablesize.proofs.size_marked.Lts as lts
-use Rattle.tablesize.proofs.size_next.Reads as size-next-reads
 
 -- src/lib.rt:122:9
 returns : tie.Need-returns

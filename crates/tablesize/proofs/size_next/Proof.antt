@@ -3,10 +3,6 @@ use Rattle.tablewriter.proofs.Many.{next-laws, next-refused}
 use borrow.Author.Needs.{needs}
 use Rattle.tablesize.proofs.size_next.Statement.{statement}
 use Rattle.tablesize.proofs.size_next.Tie as tie
-use Rattle.tablesize.proofs.size_next.Reads as reads
-use Rattle.tablesize.proofs.size_next.Lts as lts
-use Rattle.strings.proofs.next_place.Reads as next-place-reads
-use Rattle.tablesize.proofs.size_text.Reads as size-text-reads
 
 -- src/lib.rt:107:11
 next-place-requires : tie.Need-next-place-requires

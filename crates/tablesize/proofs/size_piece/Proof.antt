@@ -2,8 +2,6 @@ use Rattle.tablesize.proofs.Laws.{piece-laws}
 use borrow.Author.Needs.{needs}
 use Rattle.tablesize.proofs.size_piece.Statement.{statement}
 use Rattle.tablesize.proofs.size_piece.Tie as tie
-use Rattle.tablesize.proofs.size_piece.Reads as reads
-use Rattle.tablesize.proofs.size_piece.Lts as lts
 
 -- src/lib.rt:37:9
 returns : tie.Need-returns

@@ -2,9 +2,6 @@ use Rattle.tablesize.proofs.Counting.{rest-by}
 use borrow.Author.Needs.{needs}
 use Rattle.tablesize.proofs.size_rest.Statement.{statement}
 use Rattle.tablesize.proofs.size_rest.Tie as tie
-use Rattle.tablesize.proofs.size_rest.Reads as reads
-use Rattle.tablesize.proofs.size_rest.Lts as lts
-use Rattle.tablesize.proofs.size_items.Reads as size-items-reads
 
 -- src/lib.rt:82:16
 size-items-requires : tie.Need-size-items-requires

@@ -3,11 +3,6 @@ use Rattle.tablewriter.proofs.Whole.{text-refused}
 use borrow.Author.Needs.{needs}
 use Rattle.tablesize.proofs.size_text.Statement.{statement}
 use Rattle.tablesize.proofs.size_text.Tie as tie
-use Rattle.tablesize.proofs.size_text.Reads as reads
-use Rattle.tablesize.proofs.size_text.Lts as lts
-use Rattle.strings.proofs.string_head.Reads as string-head-reads
-use Rattle.tablesize.proofs.size_chars.Reads as size-chars-reads
-use Rattle.tablesize.proofs.size_rest.Reads as size-rest-reads
 
 -- src/lib.rt:90:11
 string-head-requires : tie.Need-string-head-requires

@@ -9,7 +9,6 @@ use lib.ListN.{length}
 use mathlib.Core.Path.{_≡_, refl}
 use Rattle.tablesize.proofs.size_texts.Statement.{statement}
 use Rattle.tablesize.proofs.size_texts.Tie as tie
-use Rattle.flags.proofs.flag_at.Reads as flag-at-reads
 
 abbrev Inv-loop : tie.InvT-loop
 Inv-loop s flags n i₀ d₀ e₀ i d e =

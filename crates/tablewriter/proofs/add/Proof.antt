@@ -2,9 +2,6 @@ use Rattle.tablewriter.proofs.Laws.{store-laws}
 use borrow.Author.Needs.{needs}
 use Rattle.tablewriter.proofs.add.Statement.{statement}
 use Rattle.tablewriter.proofs.add.Tie as tie
-use Rattle.tablewriter.proofs.add.Reads as reads
-use Rattle.tablewriter.proofs.add.Lts as lts
-use Rattle.le.proofs.put.Reads as put-reads
 
 -- src/lib.rt:55:5
 put-requires : tie.Need-put-requires

@@ -2,11 +2,6 @@ use Rattle.tablewriter.proofs.Starts.{counts-laws}
 use borrow.Author.Needs.{needs}
 use Rattle.tablewriter.proofs.add_counts.Statement.{statement}
 use Rattle.tablewriter.proofs.add_counts.Tie as tie
-use Rattle.tablewriter.proofs.add_counts.Reads as reads
-use Rattle.tablewriter.proofs.add_counts.Lts as lts
-use Rattle.strings.proofs.phonetic_bit.Reads as phonetic-bit-reads
-use Rattle.strings.proofs.rich_bit.Reads as rich-bit-reads
-use Rattle.tablewriter.proofs.add.Reads as add-reads
 
 -- src/lib.rt:195:29
 rich-bit-requires : tie.Need-rich-bit-requires

@@ -2,10 +2,6 @@ use Rattle.tablewriter.proofs.Starts.{head-laws}
 use borrow.Author.Needs.{needs}
 use Rattle.tablewriter.proofs.add_head.Statement.{statement}
 use Rattle.tablewriter.proofs.add_head.Tie as tie
-use Rattle.tablewriter.proofs.add_head.Reads as reads
-use Rattle.tablewriter.proofs.add_head.Lts as lts
-use Rattle.tablewriter.proofs.add_counts.Reads as add-counts-reads
-use Rattle.tablewriter.proofs.add_lead.Reads as add-lead-reads
 
 -- src/lib.rt:213:9
 add-lead-requires : tie.Need-add-lead-requires

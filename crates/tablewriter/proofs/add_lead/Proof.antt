@@ -2,10 +2,6 @@ use Rattle.tablewriter.proofs.Starts.{lead-laws}
 use borrow.Author.Needs.{needs}
 use Rattle.tablewriter.proofs.add_lead.Statement.{statement}
 use Rattle.tablewriter.proofs.add_lead.Tie as tie
-use Rattle.tablewriter.proofs.add_lead.Reads as reads
-use Rattle.tablewriter.proofs.add_lead.Lts as lts
-use Rattle.tablewriter.proofs.add.Reads as add-reads
-use Rattle.tablewriter.proofs.new_flags.Reads as new-flags-reads
 
 -- src/lib.rt:204:9
 add-requires : tie.Need-add-requires

@@ -2,10 +2,6 @@ use Rattle.tablewriter.proofs.Starts.{first-laws}
 use borrow.Author.Needs.{needs}
 use Rattle.tablewriter.proofs.add_start.Statement.{statement}
 use Rattle.tablewriter.proofs.add_start.Tie as tie
-use Rattle.tablewriter.proofs.add_start.Reads as reads
-use Rattle.tablewriter.proofs.add_start.Lts as lts
-use Rattle.tablewriter.proofs.add.Reads as add-reads
-use Rattle.tablewriter.proofs.add_head.Reads as add-head-reads
 
 -- src/lib.rt:214:9
 add-head-requires : tie.Need-add-head-requires

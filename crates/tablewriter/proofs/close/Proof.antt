@@ -2,9 +2,6 @@ use Rattle.tablewriter.proofs.Laws.{store-laws}
 use borrow.Author.Needs.{needs}
 use Rattle.tablewriter.proofs.close.Statement.{statement}
 use Rattle.tablewriter.proofs.close.Tie as tie
-use Rattle.tablewriter.proofs.close.Reads as reads
-use Rattle.tablewriter.proofs.close.Lts as lts
-use Rattle.le.proofs.put.Reads as put-reads
 
 -- src/lib.rt:33:18
 add-put : tie.Need-add-put

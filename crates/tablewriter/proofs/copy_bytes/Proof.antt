@@ -8,8 +8,6 @@ use lib.ListN.{length, length-set}
 use mathlib.Core.Path.{_≡_, refl}
 use Rattle.tablewriter.proofs.copy_bytes.Statement.{statement}
 use Rattle.tablewriter.proofs.copy_bytes.Tie as tie
-use Rattle.tablewriter.proofs.copy_bytes.Reads as reads
-use Rattle.tablewriter.proofs.copy_bytes.Lts as lts
 
 abbrev Inv-loop : tie.InvT-loop
 Inv-loop s n p buf₀ at left₀ from₀ to₀ buf left from to =

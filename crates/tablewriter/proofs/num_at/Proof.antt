@@ -2,13 +2,6 @@ use Rattle.tablewriter.proofs.Laws.{num-laws}
 use borrow.Author.Needs.{needs}
 use Rattle.tablewriter.proofs.num_at.Statement.{statement}
 use Rattle.tablewriter.proofs.num_at.Tie as tie
-use Rattle.tablewriter.proofs.num_at.Reads as reads
-use Rattle.tablewriter.proofs.num_at.Lts as lts
-use Rattle.le.proofs.byte_as_u64.Reads as byte-as-u64-reads
-use Rattle.le.proofs.u16_as_u64.Reads as u16-as-u64-reads
-use Rattle.le.proofs.u16_at.Reads as u16-at-reads
-use Rattle.le.proofs.u32_as_u64.Reads as u32-as-u64-reads
-use Rattle.le.proofs.u32_at.Reads as u32-at-reads
 
 -- src/lib.rt:85:32
 shared-slice-read-byte-as-u64 : tie.Need-shared-slice-read-byte-as-u64

@@ -2,10 +2,6 @@ use Rattle.tablewriter.proofs.Laws.{store-laws}
 use borrow.Author.Needs.{needs}
 use Rattle.tablewriter.proofs.open.Statement.{statement}
 use Rattle.tablewriter.proofs.open.Tie as tie
-use Rattle.tablewriter.proofs.open.Reads as reads
-use Rattle.tablewriter.proofs.open.Lts as lts
-use Rattle.le.proofs.put.Reads as put-reads
-use Rattle.tablewriter.proofs.close.Reads as close-reads
 
 -- src/lib.rt:41:5
 close-requires : tie.Need-close-requires

@@ -2,10 +2,6 @@ use Rattle.tablewriter.proofs.Laws.{for-laws}
 use borrow.Author.Needs.{needs}
 use Rattle.tablewriter.proofs.open_for.Statement.{statement}
 use Rattle.tablewriter.proofs.open_for.Tie as tie
-use Rattle.tablewriter.proofs.open_for.Reads as reads
-use Rattle.tablewriter.proofs.open_for.Lts as lts
-use Rattle.tablewriter.proofs.add.Reads as add-reads
-use Rattle.tablewriter.proofs.open.Reads as open-reads
 
 -- src/lib.rt:68:9
 open-requires : tie.Need-open-requires

@@ -2,10 +2,6 @@ use Rattle.tablewriter.proofs.Finish.{start-by}
 use borrow.Author.Needs.{needs}
 use Rattle.tablewriter.proofs.open_table.Statement.{statement}
 use Rattle.tablewriter.proofs.open_table.Tie as tie
-use Rattle.tablewriter.proofs.open_table.Reads as reads
-use Rattle.tablewriter.proofs.open_table.Lts as lts
-use Rattle.le.proofs.put.Reads as put-reads
-use Rattle.tablewriter.proofs.put_counts.Reads as put-counts-reads
 
 -- src/lib.rt:395:5
 put-requires : tie.Need-put-requires

@@ -3,9 +3,6 @@ use mathlib.Core.Path.{refl}
 use borrow.Author.Needs.{needs}
 use Rattle.tablewriter.proofs.put_bytes.Statement.{statement}
 use Rattle.tablewriter.proofs.put_bytes.Tie as tie
-use Rattle.tablewriter.proofs.put_bytes.Reads as reads
-use Rattle.tablewriter.proofs.put_bytes.Lts as lts
-use Rattle.tablewriter.proofs.copy_bytes.Reads as copy-bytes-reads
 
 -- src/lib.rt:191:5
 copy-bytes-requires : tie.Need-copy-bytes-requires

@@ -2,11 +2,6 @@ use Rattle.tablewriter.proofs.Parts.{none-laws}
 use borrow.Author.Needs.{needs}
 use Rattle.tablewriter.proofs.put_chars.Statement.{statement}
 use Rattle.tablewriter.proofs.put_chars.Tie as tie
-use Rattle.tablewriter.proofs.put_chars.Reads as reads
-use Rattle.tablewriter.proofs.put_chars.Lts as lts
-use Rattle.tablewriter.proofs.put_some.Reads as put-some-reads
-use Rattle.tablewriter.proofs.put_start.Reads as put-start-reads
-use Rattle.tablewriter.proofs.wide_bit.Reads as wide-bit-reads
 
 -- src/lib.rt:278:13
 wide-bit-requires : tie.Need-wide-bit-requires

@@ -2,9 +2,6 @@ use Rattle.tablewriter.proofs.Finish.{counts-by}
 use borrow.Author.Needs.{needs}
 use Rattle.tablewriter.proofs.put_counts.Statement.{statement}
 use Rattle.tablewriter.proofs.put_counts.Tie as tie
-use Rattle.tablewriter.proofs.put_counts.Reads as reads
-use Rattle.tablewriter.proofs.put_counts.Lts as lts
-use Rattle.le.proofs.put.Reads as put-reads
 
 -- src/lib.rt:386:18
 add-put : tie.Need-add-put

@@ -2,11 +2,6 @@ use Rattle.tablewriter.proofs.Parts.{from-laws}
 use borrow.Author.Needs.{needs}
 use Rattle.tablewriter.proofs.put_from.Statement.{statement}
 use Rattle.tablewriter.proofs.put_from.Tie as tie
-use Rattle.tablewriter.proofs.put_from.Reads as reads
-use Rattle.tablewriter.proofs.put_from.Lts as lts
-use Rattle.tablewriter.proofs.num_at.Reads as num-at-reads
-use Rattle.tablewriter.proofs.put_items.Reads as put-items-reads
-use Rattle.tablewriter.proofs.put_start.Reads as put-start-reads
 
 -- src/lib.rt:246:47
 add-put-start : tie.Need-add-put-start

@@ -2,10 +2,6 @@ use Rattle.tablewriter.proofs.Laws.{item-laws}
 use borrow.Author.Needs.{needs}
 use Rattle.tablewriter.proofs.put_item.Statement.{statement}
 use Rattle.tablewriter.proofs.put_item.Tie as tie
-use Rattle.tablewriter.proofs.put_item.Reads as reads
-use Rattle.tablewriter.proofs.put_item.Lts as lts
-use Rattle.tablewriter.proofs.add.Reads as add-reads
-use Rattle.tablewriter.proofs.open_for.Reads as open-for-reads
 
 -- src/lib.rt:81:13
 open-for-requires : tie.Need-open-for-requires

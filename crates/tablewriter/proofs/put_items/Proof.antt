@@ -2,11 +2,6 @@ use Rattle.tablewriter.proofs.Stay.{plain-ends, plain-wrote, plain-room
 use borrow.Author.Needs.{needs}
 use Rattle.tablewriter.proofs.put_items.Statement.{statement}
 use Rattle.tablewriter.proofs.put_items.Tie as tie
-use Rattle.tablewriter.proofs.put_items.Reads as reads
-use Rattle.tablewriter.proofs.put_items.Lts as lts
-use Rattle.tablewriter.proofs.plain.Reads as plain-reads
-use Rattle.tablewriter.proofs.put_bytes.Reads as put-bytes-reads
-use Rattle.tablewriter.proofs.put_over.Reads as put-over-reads
 
 -- src/lib.rt:221:23
 sub-plain : tie.Need-sub-plain

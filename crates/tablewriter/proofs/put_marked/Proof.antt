@@ -2,10 +2,6 @@ use Rattle.tablewriter.proofs.Many.{mark-laws}
 use borrow.Author.Needs.{needs}
 use Rattle.tablewriter.proofs.put_marked.Statement.{statement}
 use Rattle.tablewriter.proofs.put_marked.Tie as tie
-use Rattle.tablewriter.proofs.put_marked.Reads as reads
-use Rattle.tablewriter.proofs.put_marked.Lts as lts
-use Rattle.tablewriter.proofs.put_next.Reads as put-next-reads
-use Rattle.tablewriter.proofs.skip_text.Reads as skip-text-reads
 
 -- src/lib.rt:357:13
 skip-text-requires : tie.Need-skip-text-requires

@@ -2,10 +2,6 @@ use Rattle.tablewriter.proofs.Many.{next-laws, next-refused}
 use borrow.Author.Needs.{needs}
 use Rattle.tablewriter.proofs.put_next.Statement.{statement}
 use Rattle.tablewriter.proofs.put_next.Tie as tie
-use Rattle.tablewriter.proofs.put_next.Reads as reads
-use Rattle.tablewriter.proofs.put_next.Lts as lts
-use Rattle.strings.proofs.next_place.Reads as next-place-reads
-use Rattle.tablewriter.proofs.put_text.Reads as put-text-reads
 
 -- src/lib.rt:327:11
 next-place-requires : tie.Need-next-place-requires

@@ -2,9 +2,6 @@ use Rattle.tablewriter.proofs.Parts.{rest-laws}
 use borrow.Author.Needs.{needs}
 use Rattle.tablewriter.proofs.put_rest.Statement.{statement}
 use Rattle.tablewriter.proofs.put_rest.Tie as tie
-use Rattle.tablewriter.proofs.put_rest.Reads as reads
-use Rattle.tablewriter.proofs.put_rest.Lts as lts
-use Rattle.tablewriter.proofs.put_items.Reads as put-items-reads
 
 -- src/lib.rt:249:9
 put-items-requires : tie.Need-put-items-requires

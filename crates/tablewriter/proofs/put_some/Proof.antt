@@ -3,10 +3,6 @@ use Rattle.tablewriter.proofs.Laws.{turn-refused}
 use borrow.Author.Needs.{needs}
 use Rattle.tablewriter.proofs.put_some.Statement.{statement}
 use Rattle.tablewriter.proofs.put_some.Tie as tie
-use Rattle.tablewriter.proofs.put_some.Reads as reads
-use Rattle.tablewriter.proofs.put_some.Lts as lts
-use Rattle.segments.proofs.room_for.Reads as room-for-reads
-use Rattle.tablewriter.proofs.put_from.Reads as put-from-reads
 
 -- src/lib.rt:269:11
 room-for-requires : tie.Need-room-for-requires

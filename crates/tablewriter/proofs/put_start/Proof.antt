@@ -2,11 +2,6 @@ use Rattle.tablewriter.proofs.Starts.{start-laws}
 use borrow.Author.Needs.{needs}
 use Rattle.tablewriter.proofs.put_start.Statement.{statement}
 use Rattle.tablewriter.proofs.put_start.Tie as tie
-use Rattle.tablewriter.proofs.put_start.Reads as reads
-use Rattle.tablewriter.proofs.put_start.Lts as lts
-use Rattle.tablewriter.proofs.add_start.Reads as add-start-reads
-use Rattle.tablewriter.proofs.open.Reads as open-reads
-use Rattle.tablewriter.proofs.start_size.Reads as start-size-reads
 
 -- src/lib.rt:223:9
 start-size-requires : tie.Need-start-size-requires

@@ -2,11 +2,6 @@ use Rattle.tablewriter.proofs.Whole.{text-laws, text-refused, text-to, 
 use borrow.Author.Needs.{needs}
 use Rattle.tablewriter.proofs.put_text.Statement.{statement}
 use Rattle.tablewriter.proofs.put_text.Tie as tie
-use Rattle.tablewriter.proofs.put_text.Reads as reads
-use Rattle.tablewriter.proofs.put_text.Lts as lts
-use Rattle.strings.proofs.string_head.Reads as string-head-reads
-use Rattle.tablewriter.proofs.put_chars.Reads as put-chars-reads
-use Rattle.tablewriter.proofs.put_rest.Reads as put-rest-reads
 
 -- src/lib.rt:259:11
 string-head-requires : tie.Need-string-head-requires

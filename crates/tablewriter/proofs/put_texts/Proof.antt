@@ -8,10 +8,6 @@ use lib.ListN.{length}
 use mathlib.Core.Path.{_≡_, refl}
 use Rattle.tablewriter.proofs.put_texts.Statement.{statement}
 use Rattle.tablewriter.proofs.put_texts.Tie as tie
-use Rattle.tablewriter.proofs.put_texts.Reads as reads
-use Rattle.tablewriter.proofs.put_texts.Lts as lts
-use Rattle.flags.proofs.flag_at.Reads as flag-at-reads
-use Rattle.tablewriter.proofs.put_marked.Reads as put-marked-reads
 
 abbrev Inv-loop : tie.InvT-loop
 Inv-loop s flags n buf₀ i₀ d₀ e₀ buf i d e =

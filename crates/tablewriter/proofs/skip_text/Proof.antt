@@ -2,9 +2,6 @@ use Rattle.tablewriter.proofs.Many.{skip-to, skip-refused}
 use borrow.Author.Needs.{needs}
 use Rattle.tablewriter.proofs.skip_text.Statement.{statement}
 use Rattle.tablewriter.proofs.skip_text.Tie as tie
-use Rattle.tablewriter.proofs.skip_text.Reads as reads
-use Rattle.tablewriter.proofs.skip_text.Lts as lts
-use Rattle.strings.proofs.skip_next.Reads as skip-next-reads
 
 -- src/lib.rt:341:11
 skip-next-requires : tie.Need-skip-next-requires

@@ -2,10 +2,6 @@ use Rattle.tablewriter.proofs.Stay.{plain-wide}
 use borrow.Author.Needs.{needs}
 use Rattle.tablewriter.proofs.wide_bit.Statement.{statement}
 use Rattle.tablewriter.proofs.wide_bit.Tie as tie
-use Rattle.tablewriter.proofs.wide_bit.Reads as reads
-use Rattle.tablewriter.proofs.wide_bit.Lts as lts
-use Rattle.tablewriter.proofs.plain.Reads as plain-reads
-use Rattle.tablewriter.proofs.wide_over.Reads as wide-over-reads
 
 -- src/lib.rt:266:23
 sub-plain : tie.Need-sub-plain

@@ -1,4 +1,4 @@
-use Rattle.tablewriter.proofs.Laws.{wide-laws, turn-refused, turn-add}
+use Rattle.tablewriter.proofs.Laws.{wide-laws, turn-refused}
 use Rattle.segments.specs.Segments.{items, listOf}
 use Rattle.segments.specs.Parts.{Inside, Passes}
 use Rattle.tabletexts.specs.Written.{wideBit}

@@ -1,6 +1,5 @@
 use Rattle.walk.proofs.Choice.{picks}
 use Rattle.textresult.specs.TextResult.{between}
-use borrow.Author.Needs.{needs}
 use Rattle.textresult.proofs.between.Statement.{statement}
 use Rattle.textresult.proofs.between.Tie as tie
 

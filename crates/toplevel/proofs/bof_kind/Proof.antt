@@ -1,4 +1,3 @@
-use borrow.Author.Needs.{needs}
 use Rattle.walk.proofs.Choice.{tests}
 use Rattle.toplevel.specs.TopLevel.{bofKind}
 use Rattle.walk.specs.Choice.{pick}

@@ -2,9 +2,6 @@ use borrow.Author.Needs.{needs}
 use native.Mathlib.Omega.{arith}
 use Rattle.unordered.proofs.merge_ascending.Statement.{statement}
 use Rattle.unordered.proofs.merge_ascending.Tie as tie
-use Rattle.unordered.proofs.merge_ascending.Reads as reads
-use Rattle.unordered.proofs.merge_ascending.Lts as lts
-use Rattle.merge.proofs.merge.Reads as merge-reads
 
 -- src/lib.rt:88:9
 sub-merge : tie.Need-sub-merge

@@ -2,11 +2,6 @@ use Rattle.unordered.proofs.Laws.{up-is}
 use borrow.Author.Needs.{needs}
 use Rattle.unordered.proofs.merge_cells.Statement.{statement}
 use Rattle.unordered.proofs.merge_cells.Tie as tie
-use Rattle.unordered.proofs.merge_cells.Reads as reads
-use Rattle.unordered.proofs.merge_cells.Lts as lts
-use Rattle.addresses.proofs.ascends.Reads as ascends-reads
-use Rattle.unordered.proofs.merge_ascending.Reads as merge-ascending-reads
-use Rattle.unordered.proofs.with_tables.Reads as with-tables-reads
 
 -- src/lib.rt:470:8
 ascends-requires : tie.Need-ascends-requires

@@ -1,9 +1,6 @@
 use borrow.Author.Needs.{needs}
 use Rattle.unordered.proofs.merge_far.Statement.{statement}
 use Rattle.unordered.proofs.merge_far.Tie as tie
-use Rattle.unordered.proofs.merge_far.Reads as reads
-use Rattle.unordered.proofs.merge_far.Lts as lts
-use Rattle.unordered.proofs.merge_middle.Reads as merge-middle-reads
 
 -- src/lib.rt:265:9
 slice-aggregate-merge-middle : tie.Need-slice-aggregate-merge-middle

@@ -10,14 +10,6 @@ use borrow.Author.Needs.{needs}
 use native.Mathlib.Omega.{arith}
 use Rattle.unordered.proofs.merge_middle.Statement.{statement}
 use Rattle.unordered.proofs.merge_middle.Tie as tie
-use Rattle.unordered.proofs.merge_middle.Reads as reads
-use Rattle.unordered.proofs.merge_middle.Lts as lts
-use Rattle.merge.proofs.merge.Reads as merge-reads
-use Rattle.unordered.proofs.merge_near.Reads as merge-near-reads
-use Rattle.unordered.proofs.end_of.Reads as end-of-reads
-use Rattle.unordered.proofs.fit_of.Reads as fit-of-reads
-use Rattle.unordered.proofs.wider.Reads as wider-reads
-use Rattle.windows.proofs.sift.Reads as sift-reads
 
 abbrev Inv-loop : tie.InvT-loop
 Inv-loop s v a ac p m z f t w b bc q n u g base low high c₀ d₀ i out₀ lo₀ width₀ j₀ c d out lo width j =

@@ -1,9 +1,6 @@
 use borrow.Author.Needs.{needs}
 use Rattle.unordered.proofs.merge_near.Statement.{statement}
 use Rattle.unordered.proofs.merge_near.Tie as tie
-use Rattle.unordered.proofs.merge_near.Reads as reads
-use Rattle.unordered.proofs.merge_near.Lts as lts
-use Rattle.unordered.proofs.merge_close.Reads as merge-close-reads
 
 -- src/lib.rt:265:9
 slice-aggregate-merge-close : tie.Need-slice-aggregate-merge-close

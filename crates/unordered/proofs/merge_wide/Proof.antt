@@ -10,14 +10,6 @@ use borrow.Author.Needs.{needs}
 use native.Mathlib.Omega.{arith}
 use Rattle.unordered.proofs.merge_wide.Statement.{statement}
 use Rattle.unordered.proofs.merge_wide.Tie as tie
-use Rattle.unordered.proofs.merge_wide.Reads as reads
-use Rattle.unordered.proofs.merge_wide.Lts as lts
-use Rattle.unordered.proofs.merge_far.Reads as merge-far-reads
-use Rattle.unordered.proofs.merge_bare.Reads as merge-bare-reads
-use Rattle.unordered.proofs.end_of.Reads as end-of-reads
-use Rattle.unordered.proofs.fit_of.Reads as fit-of-reads
-use Rattle.unordered.proofs.wider.Reads as wider-reads
-use Rattle.windows.proofs.fill.Reads as fill-reads
 
 abbrev Inv-loop : tie.InvT-loop
 Inv-loop s v p m z f t w q n u g base from a₀ b₀ i out₀ lo₀ width₀ j₀ a b out lo width j =

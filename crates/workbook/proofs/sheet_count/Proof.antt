@@ -1,6 +1,5 @@
 use borrow.Author.Needs.{needs}
 use Rattle.workbook.proofs.Laws.{Counted, count-laws, count-small}
-use mathlib.Core.Path.{_≡_, refl}
 use Prim.Native.Nat.{_-_}
 use lib.ListN.{length}
 use Rattle.workbook.proofs.sheet_count.Statement.{statement}
