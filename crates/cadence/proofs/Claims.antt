@@ -8,11 +8,11 @@ use native.Mathlib.Omega.{arith}
 use lib.ListN.{length}
 use lib.Dec.{ltb, leb, eqb}
 use borrow.Author.Tests.{leb-true, leb-false, ltb-true, ltb-false, eqb-true, eqb-false}
-use Rattle.walk.specs.Choice.{pick}
-use Rattle.walk.proofs.Choice.{never, pick-any, pick-by, pick-le}
-use Rattle.walk.specs.Items.{nth}
-use Rattle.amount.specs.declared.Amount.{Amount}
-use Rattle.amount.specs.declared.Amount.the-variants.{Is, Unfit}
+use Rattle.steps.specs.Choice.{pick}
+use Rattle.steps.proofs.Choice.{never, pick-any, pick-by, pick-le}
+use Rattle.steps.specs.Items.{nth}
+use Rattle.number.specs.declared.Amount.{Amount}
+use Rattle.number.specs.declared.Amount.the-variants.{Is, Unfit}
 use Rattle.reading.specs.declared.Place.{Place}
 use Rattle.cell.specs.declared.Cell.{Cell}
 use Rattle.reading.specs.Cells.{listedFrom}

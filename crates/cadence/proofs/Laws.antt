@@ -3,12 +3,12 @@ use Prim.Native.Nat.{ℕ, _+_, _-_, _*_, _/_, _≤_, _<_}
 use mathlib.Core.Path.{_≡_, refl, sym, ap, _∙_}
 use mathlib.Core.List.{List}
 use native.Mathlib.Omega.{arith}
-use Rattle.walk.specs.Choice.{pick}
-use Rattle.walk.proofs.Choice.{never, pick-eq, pick-ne, pick-lt, pick-nlt, pick-le, pick-nle}
+use Rattle.steps.specs.Choice.{pick}
+use Rattle.steps.proofs.Choice.{never, pick-eq, pick-ne, pick-lt, pick-nlt, pick-le, pick-nle}
 use Rattle.number.specs.Float64.{bitsOf}
-use Rattle.amount.specs.declared.Amount.{Amount}
-use Rattle.amount.specs.declared.Amount.the-variants.{Is, Unfit}
-use Rattle.amount.proofs.Laws.{amount-within}
+use Rattle.number.specs.declared.Amount.{Amount}
+use Rattle.number.specs.declared.Amount.the-variants.{Is, Unfit}
+use Rattle.number.proofs.Amounts.{amount-within}
 use Rattle.value.specs.declared.CellValue.{CellValue}
 use Rattle.value.specs.declared.CellValue.the-variants.{Blank, Number, NotNumber, Text, Truth, Error, Formula}
 use Rattle.cell.specs.declared.Cell.{Cell}

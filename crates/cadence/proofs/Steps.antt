@@ -6,12 +6,12 @@ use mathlib.Core.Logic.{inl, inr}
 use native.Mathlib.Omega.{arith}
 use lib.ListN.{length}
 use lib.Dec.{eqb}
-use Rattle.walk.specs.Choice.{pick}
-use Rattle.walk.proofs.Choice.{never, pick-by}
-use Rattle.walk.specs.Items.{onto, nth}
-use Rattle.walk.proofs.Items.{Nearer, collect-step, nth-none, nth-here, nth-next}
-use Rattle.amount.specs.declared.Amount.{Amount}
-use Rattle.amount.specs.declared.Amount.the-variants.{Is}
+use Rattle.steps.specs.Choice.{pick}
+use Rattle.steps.proofs.Choice.{never, pick-by}
+use Rattle.steps.specs.Items.{onto, nth}
+use Rattle.steps.proofs.Items.{Nearer, collect-step, nth-none, nth-here, nth-next}
+use Rattle.number.specs.declared.Amount.{Amount}
+use Rattle.number.specs.declared.Amount.the-variants.{Is}
 use Rattle.cell.specs.declared.Cell.{Cell}
 use Rattle.reading.specs.declared.Place.{Place}
 use Rattle.reading.specs.Cells.{remaining, listedFrom}

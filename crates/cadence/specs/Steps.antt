@@ -2,10 +2,10 @@
 use Prim.Native.Nat.{ℕ}
 use mathlib.Core.List.{List}
 use lib.Dec.{eqb}
-use Rattle.walk.specs.Choice.{pick}
-use Rattle.walk.specs.Items.{Item, gives, ends, collect, nth}
-use Rattle.amount.specs.declared.Amount.{Amount}
-use Rattle.amount.specs.declared.Amount.the-variants.{Is, Unfit}
+use Rattle.steps.specs.Choice.{pick}
+use Rattle.steps.specs.Items.{Item, gives, ends, collect, nth}
+use Rattle.number.specs.declared.Amount.{Amount}
+use Rattle.number.specs.declared.Amount.the-variants.{Is, Unfit}
 use Rattle.reading.specs.declared.Place.{Place}
 use Rattle.reading.specs.Cells.{remaining}
 use Rattle.listing.specs.declared.Listed.{Listed}

@@ -3,7 +3,7 @@ ghost use mathlib.Core.Path.{_≡_};
 ghost use Prim.Native.Nat.{_+_, _-_, _*_, _/_, _<_};
 ghost use Rattle.cadence.specs.Cadence.{rowWith, elapsedOf, measuredOf, pairOf, cadenceOf};
 ghost use Rattle.cadence.specs.Steps.{nextNumberOf, secondsRow, nextRowOf, nextPairOf, positionAt, onFirst, pairsOf, nthPair};
-use amount::Amount;
+use number::Amount;
 use profile::NextPlaced;
 use profile::Session;
 use reading::Place;
@@ -68,7 +68,7 @@ pub enum NextPair {
 fn next_number(s: &[u8], column: u32, from: Place) -> NextNumber
     ensures { λ r. ⌜ r ≡ nextNumberOf (now (s .entry)) column from ⌝ }
 {
-    match profile::next_placed(s, from) {
+    match profile::next_with_record(s, from) {
         NextPlaced::Cell { at: _, cell, next } => {
             let value = cell.value;
             match profile::amount_in(column, value) {

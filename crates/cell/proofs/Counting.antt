@@ -3,8 +3,8 @@ use Prim.Native.Nat.{ℕ, _+_, _≤_, _<_}
 use mathlib.Core.Path.{_≡_, refl, sym, ap, _∙_}
 use mathlib.Core.List.{List}
 use native.Mathlib.Omega.{arith}
-use Rattle.walk.proofs.Choice.{pick-le, pick-nle}
-use Rattle.le.specs.Bytes.{u16At}
+use Rattle.steps.proofs.Choice.{pick-le, pick-nle}
+use Rattle.bytes.specs.Bytes.{u16At}
 use Rattle.cell.specs.declared.Shape.the-variants.{FORMULA}
 use Rattle.cell.specs.Cells.{shapeOf, lengthAt, countOf}
 

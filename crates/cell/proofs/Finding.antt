@@ -4,8 +4,8 @@ use mathlib.Core.Path.{_≡_, refl, sym, ap, ap₂, _∙_}
 use mathlib.Core.List.{List}
 use native.Mathlib.Omega.{arith}
 use native.Mathlib.Nat.{suc-mul, mul-le-mul-right}
-use Rattle.walk.proofs.Choice.{pick-lt, pick-nlt}
-use Rattle.le.specs.Bytes.{u16At, numAt}
+use Rattle.steps.proofs.Choice.{pick-lt, pick-nlt}
+use Rattle.bytes.specs.Bytes.{u16At, numAt}
 use Rattle.value.specs.declared.Field.{Field}
 use Rattle.value.specs.declared.Field.the-variants.{NoField, RkWord, StoredResult}
 use Rattle.value.specs.declared.CellValue.{CellValue}

@@ -6,9 +6,9 @@ use mathlib.Core.Bool.{Bool, true, false, not}
 use native.Mathlib.Omega.{arith}
 use lib.Dec.{leb, eqb}
 use borrow.Author.Tests.{lt-ltb, le-ltb, leb-true, leb-false}
-use Rattle.walk.specs.Choice.{pick}
-use Rattle.walk.proofs.Choice.{never, pick-true, pick-false, pick-eq, pick-ne, pick-lt, pick-nlt, pick-le, pick-nle, pick-any, pick-by}
-use Rattle.le.specs.Bytes.{u16At, u64At, numAt}
+use Rattle.steps.specs.Choice.{pick}
+use Rattle.steps.proofs.Choice.{never, pick-true, pick-false, pick-eq, pick-ne, pick-lt, pick-nlt, pick-le, pick-nle, pick-any, pick-by}
+use Rattle.bytes.specs.Bytes.{u16At, u64At, numAt}
 use Rattle.number.specs.Rk.{meansNothing}
 use Rattle.value.specs.declared.Field.{Field}
 use Rattle.value.specs.declared.Field.the-variants.{NoField, RkWord, StoredResult}

@@ -7,9 +7,9 @@ use native.Mathlib.Omega.{arith}
 use native.Mathlib.Nat.{mul-comm, mul-le-mul-right}
 use lib.Dec.{ltb, leb, eqb}
 use borrow.Author.Tests.{eqb-true, ltb-false, leb-true}
-use Rattle.walk.specs.Choice.{pick}
-use Rattle.walk.proofs.Choice.{pick-eq, pick-ne, pick-lt, pick-nlt, pick-le, pick-nle}
-use Rattle.le.specs.Bytes.{u16At}
+use Rattle.steps.specs.Choice.{pick}
+use Rattle.steps.proofs.Choice.{pick-eq, pick-ne, pick-lt, pick-nlt, pick-le, pick-nle}
+use Rattle.bytes.specs.Bytes.{u16At}
 use Rattle.value.specs.declared.Field.{Field}
 use Rattle.value.specs.declared.Field.the-variants.{NoField, Float, RkWord, TextIndex, TruthError, StoredResult}
 use Rattle.cell.specs.declared.Shape.{Shape}

@@ -6,8 +6,8 @@ use mathlib.Core.Bool.{Bool, true, false}
 use mathlib.Core.List.{List, [], _∷_}
 use lib.Dec.{ltb, leb, eqb}
 use lib.ListN.{take, drop}
-use Rattle.walk.specs.Choice.{pick}
-use Rattle.le.specs.Bytes.{u16At, numAt}
+use Rattle.steps.specs.Choice.{pick}
+use Rattle.bytes.specs.Bytes.{u16At, numAt}
 use Rattle.value.specs.declared.Field.{Field}
 use Rattle.value.specs.declared.Field.the-variants.{NoField, Float, RkWord, TextIndex, TruthError, StoredResult}
 use Rattle.value.specs.Value.{widthOf, valueOf, valueFits, indexFits}

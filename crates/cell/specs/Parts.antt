@@ -3,8 +3,8 @@ use Prim.Native.Nat.{ℕ, _+_}
 use mathlib.Core.List.{List}
 use mathlib.Core.Bool.{Bool, false}
 use lib.Dec.{leb}
-use Rattle.walk.specs.Choice.{pick}
-use Rattle.le.specs.Bytes.{u16At}
+use Rattle.steps.specs.Choice.{pick}
+use Rattle.bytes.specs.Bytes.{u16At}
 use Rattle.value.specs.declared.Field.{Field}
 use Rattle.value.specs.declared.CellValue.{CellValue}
 use Rattle.cell.specs.declared.Tokens.{Tokens}

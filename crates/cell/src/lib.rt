@@ -57,8 +57,8 @@ fn columns(s: &[u8], at: usize, size: usize) -> u16
     requires { ⌜ (at + 4 + size ≤ length (now s)) × (6 ≤ size) ⌝ }
     ensures { λ r. ⌜ r ≡ columns (firstAt (now (s .entry)) at) (lastAt (now (s .entry)) at size) ⌝ }
 {
-    let first = le::u16_at(s, at + 6);
-    let last = le::u16_at(s, at + 2 + size);
+    let first = bytes::u16_at(s, at + 6);
+    let last = bytes::u16_at(s, at + 2 + size);
     if last < first {
         return 0;
     }
@@ -69,7 +69,7 @@ fn columns(s: &[u8], at: usize, size: usize) -> u16
 }
 
 // How many cells a multiple record has, of `part` bytes each; none where its size is wrong.
-pub fn multiple(s: &[u8], at: usize, size: usize, part: usize) -> u16
+pub fn multiple_count(s: &[u8], at: usize, size: usize, part: usize) -> u16
     requires { ⌜ (at + 4 + size ≤ length (now s)) × (part ≤ 6) ⌝ }
     ensures { λ r. ⌜ r ≡ multiple (now (s .entry)) at size part ⌝ }
 {
@@ -77,7 +77,7 @@ pub fn multiple(s: &[u8], at: usize, size: usize, part: usize) -> u16
         return 0;
     }
     let n = columns(s, at, size);
-    if size == 6 + part * le::u16_as_usize(n) {
+    if size == 6 + part * bytes::u16_as_usize(n) {
         return n;
     }
     0
@@ -102,7 +102,7 @@ fn judge_blank(s: &[u8], at: usize, size: usize) -> Judged
     if size != 6 {
         return wrong(at);
     }
-    if 255 < le::u16_at(s, at + 6) {
+    if 255 < bytes::u16_at(s, at + 6) {
         return wrong(at);
     }
     Judged::Passed(1)
@@ -115,7 +115,7 @@ fn judge_number(s: &[u8], at: usize, size: usize) -> Judged
     if size != 14 {
         return wrong(at);
     }
-    if 255 < le::u16_at(s, at + 6) {
+    if 255 < bytes::u16_at(s, at + 6) {
         return wrong(at);
     }
     Judged::Passed(1)
@@ -128,11 +128,11 @@ fn judge_rk(s: &[u8], at: usize, size: usize) -> Judged
     if size != 10 {
         return wrong(at);
     }
-    if 255 < le::u16_at(s, at + 6) {
+    if 255 < bytes::u16_at(s, at + 6) {
         return wrong(at);
     }
     let q = at + 8;
-    if number::means_nothing(le::u32_at(s, q + 2)) {
+    if number::means_nothing(bytes::u32_at(s, q + 2)) {
         return wrong(at);
     }
     Judged::Passed(1)
@@ -145,11 +145,11 @@ fn judge_labelsst(s: &[u8], at: usize, size: usize, unique: u32) -> Judged
     if size != 10 {
         return wrong(at);
     }
-    if 255 < le::u16_at(s, at + 6) {
+    if 255 < bytes::u16_at(s, at + 6) {
         return wrong(at);
     }
     let q = at + 8;
-    if le::u32_at(s, q + 2) < unique {
+    if bytes::u32_at(s, q + 2) < unique {
         return Judged::Passed(1);
     }
     Judged::Refused {
@@ -165,11 +165,11 @@ fn judge_boolerr(s: &[u8], at: usize, size: usize) -> Judged
     if size != 8 {
         return wrong(at);
     }
-    if 255 < le::u16_at(s, at + 6) {
+    if 255 < bytes::u16_at(s, at + 6) {
         return wrong(at);
     }
     let q = at + 8;
-    if value::truth_error_fits(le::u16_at(s, q + 2)) {
+    if value::truth_error_fits(bytes::u16_at(s, q + 2)) {
         return Judged::Passed(1);
     }
     wrong(at)
@@ -183,7 +183,7 @@ fn words_fit(s: &[u8], q: usize, n: u16) -> bool
     let mut at = q;
     let mut left = n;
     while 0 < left {
-        if number::means_nothing(le::u32_at(s, at + 2)) {
+        if number::means_nothing(bytes::u32_at(s, at + 2)) {
             return false;
         }
         at += 6;
@@ -196,7 +196,7 @@ fn judge_mulrk(s: &[u8], at: usize, size: usize) -> Judged
     requires { ⌜ at + 4 + size ≤ length (now s) ⌝ }
     ensures { λ r. ⌜ r ≡ judged (now (s .entry)) Shape.MULRK at size 0 ⌝ }
 {
-    let n = multiple(s, at, size, 6);
+    let n = multiple_count(s, at, size, 6);
     if n == 0 {
         return wrong(at);
     }
@@ -210,7 +210,7 @@ fn judge_mulblank(s: &[u8], at: usize, size: usize) -> Judged
     requires { ⌜ at + 4 + size ≤ length (now s) ⌝ }
     ensures { λ r. ⌜ r ≡ judged (now (s .entry)) Shape.MULBLANK at size 0 ⌝ }
 {
-    let n = multiple(s, at, size, 2);
+    let n = multiple_count(s, at, size, 2);
     if n == 0 {
         return wrong(at);
     }
@@ -226,10 +226,10 @@ pub fn formula_sized(s: &[u8], at: usize, size: usize) -> bool
         return false;
     }
     let q = at + 8;
-    if size < 22 + le::u16_as_usize(le::u16_at(s, q + 16)) {
+    if size < 22 + bytes::u16_as_usize(bytes::u16_at(s, q + 16)) {
         return false;
     }
-    le::u16_at(s, at + 6) <= 255
+    bytes::u16_at(s, at + 6) <= 255
 }
 
 fn judge_formula(s: &[u8], at: usize, size: usize) -> Judged
@@ -237,7 +237,7 @@ fn judge_formula(s: &[u8], at: usize, size: usize) -> Judged
     ensures { λ r. ⌜ r ≡ judged (now (s .entry)) Shape.FORMULA at size 0 ⌝ }
 {
     if formula_sized(s, at, size) {
-        if value::result_fits(le::u64_at(s, at + 10)) {
+        if value::result_fits(bytes::u64_at(s, at + 10)) {
             return Judged::Passed(1);
         }
         return wrong(at);
@@ -289,11 +289,11 @@ fn cell_with(
     ensures { λ r. ⌜ r ≡ cellWith (now (s .entry)) at column q kind field value tokens ⌝ }
 {
     Cell {
-        row: le::u16_at(s, at + 4),
+        row: bytes::u16_at(s, at + 4),
         column,
         value,
         tokens,
-        format: le::u16_at(s, q),
+        format: bytes::u16_at(s, q),
         kind,
         field,
     }
@@ -304,7 +304,7 @@ fn single(s: &[u8], at: usize, kind: Field, field: usize, value: CellValue, toke
     requires { ⌜ at + 10 ≤ length (now s) ⌝ }
     ensures { λ r. ⌜ r ≡ singleOf (now (s .entry)) at kind field value tokens ⌝ }
 {
-    let column = le::u16_at(s, at + 6);
+    let column = bytes::u16_at(s, at + 6);
     let cell = cell_with(s, at, column, at + 8, kind, field, value, tokens);
     Found::There { cell, left: 0 }
 }
@@ -333,7 +333,7 @@ fn number_cell(s: &[u8], at: usize, size: usize, k: u16) -> Found
         return Found::Absent;
     }
     let q = at + 8;
-    let value = value::float_value(le::u64_at(s, q + 2));
+    let value = value::float_value(bytes::u64_at(s, q + 2));
     single(s, at, Field::Float, q + 2, value, no_tokens())
 }
 
@@ -348,7 +348,7 @@ fn rk_cell(s: &[u8], at: usize, size: usize, k: u16) -> Found
         return Found::Absent;
     }
     let q = at + 8;
-    let value = value::rk_value(le::u32_at(s, q + 2));
+    let value = value::rk_value(bytes::u32_at(s, q + 2));
     single(s, at, Field::RkWord, q + 2, value, no_tokens())
 }
 
@@ -363,7 +363,7 @@ fn labelsst_cell(s: &[u8], at: usize, size: usize, k: u16) -> Found
         return Found::Absent;
     }
     let q = at + 8;
-    let value = CellValue::Text(le::u32_at(s, q + 2));
+    let value = CellValue::Text(bytes::u32_at(s, q + 2));
     single(s, at, Field::TextIndex, q + 2, value, no_tokens())
 }
 
@@ -378,7 +378,7 @@ fn boolerr_cell(s: &[u8], at: usize, size: usize, k: u16) -> Found
         return Found::Absent;
     }
     let q = at + 8;
-    let value = value::truth_error_value(le::u16_at(s, q + 2));
+    let value = value::truth_error_value(bytes::u16_at(s, q + 2));
     single(s, at, Field::TruthError, q + 2, value, no_tokens())
 }
 
@@ -387,9 +387,9 @@ fn rk_part(s: &[u8], at: usize, k: u16) -> Cell
     requires { ⌜ (at + 8 + k * 6 + 6 ≤ length (now s)) × (firstAt (now s) at + k < 65536) ⌝ }
     ensures { λ r. ⌜ r ≡ cellOf (now (s .entry)) Field.RkWord at k ⌝ }
 {
-    let column = le::u16_at(s, at + 6) + k;
-    let q = at + 8 + le::u16_as_usize(k) * 6;
-    let value = value::rk_value(le::u32_at(s, q + 2));
+    let column = bytes::u16_at(s, at + 6) + k;
+    let q = at + 8 + bytes::u16_as_usize(k) * 6;
+    let value = value::rk_value(bytes::u32_at(s, q + 2));
     cell_with(s, at, column, q, Field::RkWord, q + 2, value, no_tokens())
 }
 
@@ -397,8 +397,8 @@ fn blank_part(s: &[u8], at: usize, k: u16) -> Cell
     requires { ⌜ (at + 8 + k * 2 + 2 ≤ length (now s)) × (firstAt (now s) at + k < 65536) ⌝ }
     ensures { λ r. ⌜ r ≡ cellOf (now (s .entry)) Field.NoField at k ⌝ }
 {
-    let column = le::u16_at(s, at + 6) + k;
-    let q = at + 8 + le::u16_as_usize(k) * 2;
+    let column = bytes::u16_at(s, at + 6) + k;
+    let q = at + 8 + bytes::u16_as_usize(k) * 2;
     cell_with(
         s,
         at,
@@ -415,7 +415,7 @@ fn mulrk_cell(s: &[u8], at: usize, size: usize, k: u16) -> Found
     requires { ⌜ at + 4 + size ≤ length (now s) ⌝ }
     ensures { λ r. ⌜ r ≡ foundOf (now (s .entry)) Shape.MULRK at size k ⌝ }
 {
-    let n = multiple(s, at, size, 6);
+    let n = multiple_count(s, at, size, 6);
     if n <= k {
         return Found::Absent;
     }
@@ -430,7 +430,7 @@ fn mulblank_cell(s: &[u8], at: usize, size: usize, k: u16) -> Found
     requires { ⌜ at + 4 + size ≤ length (now s) ⌝ }
     ensures { λ r. ⌜ r ≡ foundOf (now (s .entry)) Shape.MULBLANK at size k ⌝ }
 {
-    let n = multiple(s, at, size, 2);
+    let n = multiple_count(s, at, size, 2);
     if n <= k {
         return Found::Absent;
     }
@@ -449,14 +449,14 @@ fn formula_cell(s: &[u8], at: usize, size: usize, k: u16) -> Found
         return Found::Absent;
     }
     let q = at + 8;
-    let length = le::u16_at(s, q + 16);
-    if size < 22 + le::u16_as_usize(length) {
+    let length = bytes::u16_at(s, q + 16);
+    if size < 22 + bytes::u16_as_usize(length) {
         return Found::Absent;
     }
     if 0 < k {
         return Found::Absent;
     }
-    let value = CellValue::Formula(value::result_value(le::u64_at(s, q + 2)));
+    let value = CellValue::Formula(value::result_value(bytes::u64_at(s, q + 2)));
     let tokens = Tokens {
         start: q + 18,
         length,
@@ -501,7 +501,7 @@ fn formula_cells(s: &[u8], at: usize, size: usize) -> u16
         return 0;
     }
     let q = at + 8;
-    if size < 22 + le::u16_as_usize(le::u16_at(s, q + 16)) {
+    if size < 22 + bytes::u16_as_usize(bytes::u16_at(s, q + 16)) {
         return 0;
     }
     1
@@ -518,8 +518,8 @@ pub fn cell_count(s: &[u8], at: usize, kind: u16, size: usize) -> u16
         0x027E => one_cell(size, 10),
         0x00FD => one_cell(size, 10),
         0x0205 => one_cell(size, 8),
-        0x00BD => multiple(s, at, size, 6),
-        0x00BE => multiple(s, at, size, 2),
+        0x00BD => multiple_count(s, at, size, 6),
+        0x00BE => multiple_count(s, at, size, 2),
         0x0006 => formula_cells(s, at, size),
         _ => 0,
     }

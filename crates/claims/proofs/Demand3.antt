@@ -9,13 +9,13 @@ use lib.Dec.{ltb, eqb}
 use lib.ListN.{length, getD}
 use lib.Seq.{sets, length-sets}
 use borrow.Author.Tests.{le-ltb, ltb-true, ltb-false, leb-false, lt-leb}
-use Rattle.walk.specs.Choice.{pick}
-use Rattle.walk.proofs.Choice.{never, pick-by}
-use Rattle.walk.specs.Items.{nth}
-use Rattle.le.specs.Bytes.{numAt, bytesOf}
-use Rattle.le.proofs.Laws.{stored-other, num-stored}
+use Rattle.steps.specs.Choice.{pick}
+use Rattle.steps.proofs.Choice.{never, pick-by}
+use Rattle.steps.specs.Items.{nth}
+use Rattle.bytes.specs.Bytes.{numAt, bytesOf}
+use Rattle.bytes.proofs.Laws.{stored-other, num-stored}
 use Rattle.record.proofs.Laws.{whole}
-use Rattle.boolerr.specs.Boolerr.{isTruth, isError}
+use Rattle.truth_error.specs.Boolerr.{isTruth, isError}
 use Rattle.number.specs.Float64.{bitsOf}
 use Rattle.number.specs.Packing.{Means, packOf}
 use Rattle.number.specs.declared.Packed.{Packed}
@@ -26,14 +26,14 @@ use Rattle.value.specs.declared.Field.the-variants.{NoField, Float, RkWord, Tex
 use Rattle.value.specs.declared.CellValue.{CellValue}
 use Rattle.value.specs.Value.{widthOf, valueOf}
 use Rattle.cell.specs.declared.Cell.{Cell}
-use Rattle.change.specs.declared.NewValue.{NewValue}
-use Rattle.change.specs.declared.NewValue.the-variants.{Number, Text, Truth, Error}
-use Rattle.change.specs.declared.Answer.the-variants as changed
-use Rattle.change.specs.declared.Plan.{Plan}
-use Rattle.change.specs.declared.Plan.the-variants as plan
-use Rattle.change.specs.Change.{Held, newOf, putIf, finite, floatPlan, packedPlan, planOf}
-use Rattle.kept.proofs.Planned.{planned, unpacked}
-use Rattle.sheetlist.specs.Agreement.{Sheet}
+use Rattle.new_value.specs.declared.NewValue.{NewValue}
+use Rattle.new_value.specs.declared.NewValue.the-variants.{Number, Text, Truth, Error}
+use Rattle.new_value.specs.declared.Answer.the-variants as changed
+use Rattle.new_value.specs.declared.Plan.{Plan}
+use Rattle.new_value.specs.declared.Plan.the-variants as plan
+use Rattle.new_value.specs.Change.{Held, newOf, putIf, finite, floatPlan, packedPlan, planOf}
+use Rattle.record_after.proofs.Planned.{planned, unpacked}
+use Rattle.sheet_agreement.specs.Agreement.{Sheet}
 use Rattle.globals.specs.declared.Globals.{Globals}
 use Rattle.globals.specs.Sheets.{sheetsOf}
 use Rattle.workbook.specs.declared.Checked.{Checked}
@@ -43,13 +43,13 @@ use Rattle.workbook.specs.Check.{checkedOf, answered, onChecked}
 use Rattle.reading.specs.Reading.{startOf, listedOf, CellReading, SheetReading, Reading, readingOf}
 use Rattle.correction.specs.Correction.{Correction, refuses, writes, cellsAt, onPlan, onCells, noSheet, correctionOf, answerOf, streamAfter}
 use Rattle.correction.proofs.Laws.{sheet-lent, sheet-missing}
-use Rattle.chain.specs.Chain.{Nth}
-use Rattle.chain.proofs.Chain.{nth-is, nth-missing, nth-either}
-use Rattle.upheld.specs.Granted.{Granted}
-use Rattle.upheld.proofs.Granted.{granted, listed-only, field-high}
-use Rattle.upheld.proofs.Upheld.{upheld, sheets-stay}
-use Rattle.reread.specs.Replaced.{hasAddress, withValue, replacedCell, replacedSheet, onNth, valuesAt}
-use Rattle.reread.proofs.Reading.{reads-replaced, new-after}
+use Rattle.record_chain.specs.Chain.{Nth}
+use Rattle.record_chain.proofs.Chain.{nth-is, nth-missing, nth-either}
+use Rattle.passes_after.specs.Granted.{Granted}
+use Rattle.passes_after.proofs.Granted.{granted, listed-only, field-high}
+use Rattle.passes_after.proofs.Upheld.{upheld, sheets-stay}
+use Rattle.reads_after.specs.Replaced.{hasAddress, withValue, replacedCell, replacedSheet, onNth, valuesAt}
+use Rattle.reads_after.proofs.Reading.{reads-replaced, new-after}
 use Rattle.claims.specs.Demand3.{Corrects, Only, One, HoldsNew, OthersStay, passed, Passes, ReadsNew, OneAfter, Granted as OfGranted, spotOf, ofCells, SpotsStay, textOf, TextsStay, takes, Unfit, Refusal, checked, lent-sheet, no-sheet, no-cell, many, kind, value, RefusedExactly, RefusedKeeps, PackedExactly}
 
 -- ---- a granted correction: what was written, and into which cell

@@ -5,39 +5,39 @@ use mathlib.Core.List.{List}
 use mathlib.Core.Logic.{_⊎_, inl, inr}
 use native.Mathlib.Omega.{arith}
 use lib.ListN.{length}
-use Rattle.le.specs.Bytes.{u16At}
-use Rattle.le.proofs.Laws.{Same, num-same}
+use Rattle.bytes.specs.Bytes.{u16At}
+use Rattle.bytes.proofs.Laws.{Same, num-same}
 use Rattle.record.proofs.Laws.{whole}
 use Rattle.segments.specs.declared.Cursor.{Cursor}
 use Rattle.segments.specs.Segments.{Got, got, listOf}
 use Rattle.segments.proofs.Local.{continues-kept}
-use Rattle.walk.specs.Items.{nth}
+use Rattle.steps.specs.Items.{nth}
 use Rattle.strings.specs.declared.Fetched.the-variants as fetched
 use Rattle.strings.specs.Table.{tableOf, answerOf, placesOf, fetchedOf, bufferOf}
 use Rattle.strings.proofs.Local.{table-same}
 use Rattle.value.specs.declared.Field.{Field}
-use Rattle.change.specs.declared.NewValue.{NewValue}
-use Rattle.change.specs.Change.{Held}
+use Rattle.new_value.specs.declared.NewValue.{NewValue}
+use Rattle.new_value.specs.Change.{Held}
 use Rattle.globals.specs.declared.Globals.{Globals}
 use Rattle.workbook.specs.declared.Checked.the-variants.{Right}
 use Rattle.workbook.specs.Check.{checkedOf, onChecked}
 use Rattle.reading.specs.Reading.{stringsAt}
 use Rattle.correction.specs.Correction.{correctionOf, writes, streamAfter}
 use Rattle.fetch.specs.Fetch.{answerIn, bufferIn}
-use Rattle.chain.proofs.Chain.{reach-ahead}
-use Rattle.chain.proofs.Sheets.{passing}
-use Rattle.chain.proofs.Table.{table-reach}
-use Rattle.upheld.specs.Granted.{Granted}
-use Rattle.upheld.proofs.Granted.{granted}
-use Rattle.upheld.proofs.Upheld.{upheld}
-use Rattle.reread.proofs.Fields.{inside, same-before}
-use Rattle.reread.proofs.Found.{reach-found, corrected}
-use Rattle.reread.proofs.Strings.{Table, Tabled, globals-tabled, strings-kept}
-use Rattle.places.specs.declared.Filled.the-variants.{Strings, Refused}
-use Rattle.places.specs.Places.{placesAt, filledOf, fillOf, tableAfter, throughOf, bufferThrough}
-use Rattle.places.specs.Places as places
-use Rattle.places.proofs.Filling.{places-none, places-some}
-use Rattle.places.proofs.Claims.{given, through-filled, buffer-filled}
+use Rattle.record_chain.proofs.Chain.{reach-ahead}
+use Rattle.record_chain.proofs.Sheets.{passing}
+use Rattle.record_chain.proofs.Table.{table-reach}
+use Rattle.passes_after.specs.Granted.{Granted}
+use Rattle.passes_after.proofs.Granted.{granted}
+use Rattle.passes_after.proofs.Upheld.{upheld}
+use Rattle.reads_after.proofs.Fields.{inside, same-before}
+use Rattle.reads_after.proofs.Found.{reach-found, corrected}
+use Rattle.reads_after.proofs.Strings.{Table, Tabled, globals-tabled, strings-kept}
+use Rattle.string_places.specs.declared.Filled.the-variants.{Strings, Refused}
+use Rattle.string_places.specs.Places.{placesAt, filledOf, fillOf, tableAfter, throughOf, bufferThrough}
+use Rattle.string_places.specs.Places as places
+use Rattle.string_places.proofs.Filling.{places-none, places-some}
+use Rattle.string_places.proofs.Claims.{given, through-filled, buffer-filled}
 use Rattle.claims.specs.Tables.{SameTable, Outlives}
 use Rattle.claims.proofs.Demand3.{made, one}
 

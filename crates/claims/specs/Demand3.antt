@@ -7,20 +7,20 @@ use mathlib.Core.Logic.{_⊎_, _↔_}
 use mathlib.Core.Bool.{Bool, true, false}
 use lib.Ieee.{Float as F64}
 use lib.ListN.{length, getD}
-use Rattle.le.specs.Bytes.{numAt}
-use Rattle.boolerr.specs.Boolerr.{isError}
+use Rattle.bytes.specs.Bytes.{numAt}
+use Rattle.truth_error.specs.Boolerr.{isError}
 use Rattle.number.specs.Float64.{bitsOf}
 use Rattle.number.specs.Packing.{Means}
 use Rattle.value.specs.declared.Field.{Field}
 use Rattle.value.specs.declared.Field.the-variants.{NoField, Float, RkWord, TextIndex, TruthError, StoredResult}
 use Rattle.value.specs.Value.{widthOf, valueOf}
 use Rattle.cell.specs.declared.Cell.{Cell}
-use Rattle.change.specs.declared.NewValue.{NewValue}
-use Rattle.change.specs.declared.NewValue.the-variants.{Number, Text, Truth, Error}
-use Rattle.change.specs.declared.Answer as change
-use Rattle.change.specs.declared.Answer.the-variants as changed
-use Rattle.change.specs.Change.{Held, newOf, finite}
-use Rattle.sheetlist.specs.Agreement.{Sheet}
+use Rattle.new_value.specs.declared.NewValue.{NewValue}
+use Rattle.new_value.specs.declared.NewValue.the-variants.{Number, Text, Truth, Error}
+use Rattle.new_value.specs.declared.Answer as change
+use Rattle.new_value.specs.declared.Answer.the-variants as changed
+use Rattle.new_value.specs.Change.{Held, newOf, finite}
+use Rattle.sheet_agreement.specs.Agreement.{Sheet}
 use Rattle.globals.specs.declared.Globals.{Globals}
 use Rattle.globals.specs.Sheets.{sheetsOf}
 use Rattle.workbook.specs.declared.Checked.the-variants.{Right, Wrong}
@@ -29,8 +29,8 @@ use Rattle.workbook.specs.declared.Answer.the-variants.{Passed, Refused}
 use Rattle.workbook.specs.Check.{checkedOf, answered}
 use Rattle.reading.specs.Reading.{CellReading, SheetReading, listedOf, readingOf}
 use Rattle.correction.specs.Correction.{cellsAt, correctionOf, answerOf, streamAfter}
-use Rattle.chain.specs.Chain.{Nth}
-use Rattle.reread.specs.Replaced.{replaced, valuesAt}
+use Rattle.record_chain.specs.Chain.{Nth}
+use Rattle.reads_after.specs.Replaced.{replaced, valuesAt}
 
 -- what `correct` ensures, clause by clause: s is the stream before the call, r the answer, t the stream after it
 pub record Corrects (s : List ℕ) (lent sheets n row column : ℕ) (v : NewValue) (r : change.Answer) (t : List ℕ) : Type 0 where

@@ -3,19 +3,19 @@ use Prim.Native.Nat.{ℕ, _+_}
 use mathlib.Core.Path.{_≡_}
 use mathlib.Core.List.{List, [], _∷_, _++_, map}
 use lib.Ieee.{binary64, ofBits}
-use Rattle.le.specs.Bytes.{u16At}
+use Rattle.bytes.specs.Bytes.{u16At}
 use Rattle.number.specs.Float64.{bitsOf}
 use Rattle.number.specs.declared.Rk.{Rk}
 use Rattle.number.specs.declared.Rk.the-variants as rk
 use Rattle.number.specs.Rk.{rkOf}
 use Rattle.value.specs.declared.Field.the-variants.{RkWord}
-use Rattle.change.specs.declared.NewValue.the-variants.{Number}
-use Rattle.change.specs.declared.Plan.{Plan}
-use Rattle.change.specs.declared.Plan.the-variants as plan
-use Rattle.change.specs.Change.{planOf}
-use Rattle.formula.specs.declared.Judgement.{Judgement}
-use Rattle.formula.specs.declared.Judgement.the-variants.{Accepted, Refused}
-use Rattle.judge.specs.Judge.{judgeOf}
+use Rattle.new_value.specs.declared.NewValue.the-variants.{Number}
+use Rattle.new_value.specs.declared.Plan.{Plan}
+use Rattle.new_value.specs.declared.Plan.the-variants as plan
+use Rattle.new_value.specs.Change.{planOf}
+use Rattle.tokens.specs.declared.Judgement.{Judgement}
+use Rattle.tokens.specs.declared.Judgement.the-variants.{Accepted, Refused}
+use Rattle.formula.specs.Judge.{judgeOf}
 use Rattle.strings.specs.Table.{stringsOf}
 
 -- what an RK word means, how the number of these 64 bits is packed, how a formula's tokens and the bytes after them are judged, which strings an SST and its CONTINUEs hold

@@ -3,8 +3,8 @@
 use Prim.Native.Nat.{ℕ}
 use mathlib.Core.Path.{_≡_}
 use mathlib.Core.List.{List}
-use Rattle.places.specs.declared.Filled.the-variants.{Strings}
-use Rattle.places.specs.Places.{fillOf, tableAfter, throughOf, bufferThrough}
+use Rattle.string_places.specs.declared.Filled.the-variants.{Strings}
+use Rattle.string_places.specs.Places.{fillOf, tableAfter, throughOf, bufferThrough}
 use Rattle.claims.specs.Demand3.{Granted}
 
 -- filling after it gives the table that filling before it gave

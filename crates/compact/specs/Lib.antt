@@ -1,5 +1,2 @@
-pub mod Entries
-pub mod Compact
+pub mod Compacted
 pub mod Parts
-pub mod Echo
-pub mod Claims

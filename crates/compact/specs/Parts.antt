@@ -1,84 +1,80 @@
--- What the laws speak of. Nothing here is part of the claims.
+-- What the contracts of the inner functions speak of.
 use Prim.Native.Nat.{ℕ, _+_, _^_, _≤_, _<_}
 use mathlib.Core.Path.{_≡_}
-use mathlib.Core.List.{List, [], _∷_}
-use mathlib.Core.Bool.{true, false}
-use lib.ListN.{length, getD, drop}
-use Rattle.record.specs.declared.Header.the-variants.{Record}
-use Rattle.record.specs.Record.{headerAt}
-use Rattle.sheetlist.specs.Agreement.{Sheet, Bof}
-use Rattle.reading.specs.Claims.{Every}
+use mathlib.Core.List.{List}
+use lib.ListN.{length}
+use Rattle.segments.specs.Parts.{Inside, Passes}
+use Rattle.strings.specs.Table.{strings, first}
+use Rattle.table_texts.specs.Written.{tableBytes, tableSize}
+use Rattle.bytes.specs.Bytes.{u32At}
 use Rattle.globals.specs.declared.Globals.{Globals}
-use Rattle.globals.specs.Sheets.{sheetsOf}
-use Rattle.compact.specs.Entries.{Spot, entriesFrom, entriesOf}
-use Rattle.compact.specs.Compact.{written, placeIn, byteIn, textsIn, uses, indexIn, compactWith}
+use Rattle.workbook.specs.declared.Checked.the-variants.{Right}
+use Rattle.workbook.specs.Check.{checkedOf}
+use Rattle.reading.specs.Claims.{Every}
+use Rattle.new_stream.specs.Entries.{Entry, text, entriesOf}
+use Rattle.new_table.specs.NewTable.{Bytes, newTable}
+use Rattle.table_chunks.specs.Chosen.{chosen}
+use Rattle.copied_records.specs.Copied.{copied}
+use Rattle.copy_changes.specs.Edited.{tableChange, sheetChange, edited, placeFor}
+use Rattle.new_indices.specs.Runs.{Reindexed}
+use Rattle.compact.specs.declared.Plan.{Plan}
 
--- What the laws are given: the old and the new stream, the new table, the new index of a string, what is written as the new place of a BOF, the new
--- place of every record and of every byte, and which strings are used.
-pub record Given : Type 1 where
-  pub s : List ℕ
-  pub t : List ℕ
-  pub T : List ℕ
-  pub index : ℕ → ℕ
-  pub place : ℕ → ℕ
-  pub total : ℕ → ℕ
-  pub byte : ℕ → ℕ
-  pub Used : ℕ → Type 0
+-- the bytes of the new table
+abbrev pub bytesFor : List ℕ → Plan → List ℕ
+bytesFor s t = tableBytes (t .total) (chosen s 0 (t .unique) (first (t .head) (t .end)))
 
--- At q of the new stream stands what is written of the records of the old stream from w on.
-pub record View (m : Given) (w : Spot) (q : ℕ) : Type 0 where
-  pub within : q ≤ length (m .t)
-  pub view : drop q (m .t) ≡ written (m .s) (m .T) (m .index) (m .place) (entriesFrom (m .s) w)
-  pub counts : (p : ℕ) → w .at ≤ p → m .total p ≡ q + placeIn (m .T) (entriesFrom (m .s) w) p
-  pub bytes : (p : ℕ) → w .at ≤ p → m .byte p ≡ q + byteIn (m .T) (entriesFrom (m .s) w) p
-  pub used : (i : ℕ) → uses (textsIn (m .s) (entriesFrom (m .s) w)) i ≡ true → m .Used i
+-- the old table is right, and the plan's count and size are those of the new one
+pub record Planned (s : List ℕ) (t : Plan) : Type 0 where
+  pub short : length s ≤ 16777216
+  pub few : t .unique < 4294967296
+  pub inside : Inside s (first (t .head) (t .end))
+  pub passes : Passes (strings s (t .unique) (first (t .head) (t .end)))
+  pub counted : t .count ≡ length (chosen s 0 (t .unique) (first (t .head) (t .end)))
+  pub sized : t .size ≡ tableSize (chosen s 0 (t .unique) (first (t .head) (t .end)))
 
--- w′ is past the n bytes at w
-abbrev pub Ahead : Spot → Spot → ℕ → Type 0
-Ahead w w′ n = (w .at < w′ .at) × (w .at + n ≤ w′ .at)
+-- what stays, and the new table in its place
+unfoldable pub tabled : List ℕ → Plan → List ℕ → List ℕ
+tabled s t o = edited (tableChange (bytesFor s t)) (t .size) (entriesOf s) (copied s (t .size) (entriesOf s) o 0) 0
 
--- ---- what is said of sheets and BOFs, in the new stream
-abbrev pub movedBof : Given → Bof → Bof
-movedBof m b = record { start = m .total (b .start); kind = b .kind }
+-- new indices below top, then new positions
+pub record Rewritten (s : List ℕ) (n top : ℕ) (o o′ : List ℕ) : Type 0 where
+  pub middle : List ℕ
+  pub runs : Reindexed s n top o middle
+  pub is : o′ ≡ edited (sheetChange s (placeFor n (entriesOf s))) n (entriesOf s) middle 0
 
-abbrev pub movedSheet : Given → Sheet → Sheet
-movedSheet m x = record { header = m .total (x .header); position = m .place (x .position); kind = x .kind }
+-- the stream passes with the globals g, by whatever unique count is lent where it has no table
+pub record Passed (s : List ℕ) (g : Globals) : Type 0 where
+  pub bytes : Bytes s
+  pub lent : ℕ
+  pub few : lent ≤ 256 ^ 4
+  pub ok : checkedOf s lent ≡ Right g
 
--- each BOF has a place of its own in the new stream
-abbrev pub BofsApart : Given → List Bof → Type 0
-BofsApart m [] = Unit {0}
-BofsApart m (b ∷ l) = Every (λ (c : Bof). m .total (b .start) ≡ m .total (c .start) → ⊥) l × BofsApart m l
+-- and it has a table, or has none
+pub record Tabled (s : List ℕ) (g : Globals) : Type 0 where
+  pub bytes : Bytes s
+  pub lent : ℕ
+  pub few : lent ≤ 256 ^ 4
+  pub ok : checkedOf s lent ≡ Right g
+  pub some : g .table ≡ 0 → ⊥
 
--- a BOUNDSHEET in both streams: all its bytes but those of the position are the same
-pub record BoundMoved (m : Given) (x : Sheet) : Type 0 where
-  pub size : ℕ
-  pub end : ℕ
-  pub long : 8 ≤ size
-  pub old : headerAt (m .s) (x .header) ≡ Record 0x0085 size end
-  pub new : headerAt (m .t) (m .total (x .header)) ≡ Record 0x0085 size (m .total (x .header) + (4 + size))
-  pub same : (k : ℕ) → k < 4 + size → 8 ≤ k → getD (drop (x .header) (m .s)) k 0 ≡ getD (drop (m .total (x .header)) (m .t)) k 0
+pub record Untabled (s : List ℕ) (g : Globals) : Type 0 where
+  pub bytes : Bytes s
+  pub lent : ℕ
+  pub few : lent ≤ 256 ^ 4
+  pub ok : checkedOf s lent ≡ Right g
+  pub no-table : g .table ≡ 0
 
--- what stands from a BOF on, in both streams
-pub record BofViewed (m : Given) (p : ℕ) : Type 0 where
-  pub kind : ℕ
-  pub view : View m (record { at = p; level = 0; kind = kind; gone = false }) (m .total p)
-
--- ---- a stream and the new one that is made of it
-abbrev pub givenOf : List ℕ → List ℕ → Given
-givenOf s T = record {
-  s = s;
-  t = compactWith s T;
-  T = T;
-  index = indexIn s T (entriesOf s);
-  place = placeIn T (entriesOf s);
-  total = placeIn T (entriesOf s);
-  byte = byteIn T (entriesOf s);
-  Used = λ i. uses (textsIn s (entriesOf s)) i ≡ true;
-}
-
--- what holds of them, where the old one passes with the globals g, for the unique count u′ of the new one
-pub record Made (s T : List ℕ) (g : Globals) (u′ : ℕ) : Type 0 where
-  pub fresh : (i : ℕ) → uses (textsIn s (entriesOf s)) i ≡ true → i < g .unique → indexIn s T (entriesOf s) i < u′
-  pub small : u′ ≤ 256 ^ 4
-  pub views : Every (λ (x : Sheet). BofViewed (givenOf s T) (x .position)) (sheetsOf s)
-  pub bounds : Every (BoundMoved (givenOf s T)) (sheetsOf s)
+-- what is known before anything is written: the stream passes with the globals g and has a table, t is the plan for the new one, and each listed text index is
+-- below top
+pub record Prepared (s : List ℕ) (g : Globals) (t : Plan) (top : ℕ) : Type 0 where
+  pub bytes : Bytes s
+  pub lent : ℕ
+  pub few : lent ≤ 256 ^ 4
+  pub ok : checkedOf s lent ≡ Right g
+  pub some : g .table ≡ 0 → ⊥
+  pub planned : Planned s t
+  pub table : bytesFor s t ≡ newTable s g
+  pub size : t .size ≡ length (newTable s g)
+  pub small : t .size ≤ 16777216
+  pub below : Every (λ (x : Entry). x .fate ≡ text → u32At s (x .at + 10) < top) (entriesOf s)
+  pub high : top ≤ 4294967296

@@ -5,25 +5,25 @@ use mathlib.Core.Bool.{Bool, true, false, _||_}
 use mathlib.Core.List.{List, [], _∷_, map}
 use lib.ListN.{getD}
 use lib.Dec.{eqb}
-use Rattle.walk.specs.Choice.{pick}
-use Rattle.walk.proofs.Choice.{pick-true, pick-any}
-use Rattle.walk.specs.Items.{nth}
+use Rattle.steps.specs.Choice.{pick}
+use Rattle.steps.proofs.Choice.{pick-true, pick-any}
+use Rattle.steps.specs.Items.{nth}
 use Rattle.value.specs.declared.CellValue.{CellValue}
 use Rattle.value.specs.declared.CellValue.the-variants as value
-use Rattle.sheetlist.specs.Agreement.{Sheet}
+use Rattle.sheet_agreement.specs.Agreement.{Sheet}
 use Rattle.globals.specs.declared.Globals.{Globals}
 use Rattle.globals.specs.Sheets.{sheetsOf}
 use Rattle.workbook.specs.Check.{checkedOf}
 use Rattle.reading.specs.Reading.{CellReading, SheetReading, Reading, listedOf, cellReading, sheetReading, readingOf}
-use Rattle.chain.specs.Chain.{Every, Nth, first, next}
+use Rattle.record_chain.specs.Chain.{Every, Nth, first, next}
 use Rattle.differences.specs.Differences.{same, shown, charsOf, addressOf, holds, heldAt, has, twice, twiceIn, Difference, none, name, unequal, alike, between, cellsIn, cellDifference, namesBetween, nameDifference, sheetKeys, addresses, differenceIn, differenceAt, keysOf, differences}
 use Rattle.differences.proofs.Laws.{words-none, same-refl}
 use Rattle.compare.specs.Comparison.{lists}
-use Rattle.compared.proofs.Claims.{both-pass}
-use Rattle.retexted.specs.Retexted.{retextedValue, retextedCell, retextedSheet, indexOf, byteOf}
-use Rattle.newtable.specs.NewTable.{newTable, compactOf}
-use Rattle.newtable.specs.Claims.{Given}
-use Rattle.newtable.proofs.Claims.{new-is, new-passes, new-sheets, new-named}
+use Rattle.compare_claims.proofs.Claims.{both-pass}
+use Rattle.new_reading.specs.Retexted.{retextedValue, retextedCell, retextedSheet, indexOf, byteOf}
+use Rattle.new_table.specs.NewTable.{newTable, compactOf}
+use Rattle.new_table.specs.Claims.{Given}
+use Rattle.new_table.proofs.Claims.{new-is, new-passes, new-sheets, new-named}
 use Rattle.compact_compared.specs.Claims.{ReadAlike, NothingLost}
 
 -- ---- lists

@@ -7,8 +7,8 @@ use Rattle.globals.specs.declared.Globals.{Globals}
 use Rattle.reading.specs.Reading.{readingOf}
 use Rattle.differences.specs.Differences.{twiceIn, differences}
 use Rattle.compare.specs.Comparison.{lists, comparisonOf}
-use Rattle.newtable.specs.NewTable.{compactOf}
-use Rattle.newtable.specs.Claims.{Given}
+use Rattle.new_table.specs.NewTable.{compactOf}
+use Rattle.new_table.specs.Claims.{Given}
 
 -- of the readings; u is the unique count of strings where the stream has no SST
 abbrev pub ReadAlike : Type 0

@@ -7,7 +7,7 @@ use native.Mathlib.Omega.{arith}
 use lib.ListN.{length}
 use lib.Dec.{ltb, leb}
 use borrow.Author.Tests.{ltb-true, ltb-false, leb-true, leb-false}
-use Rattle.walk.specs.Choice.{pick}
+use Rattle.steps.specs.Choice.{pick}
 use Rattle.reading.specs.Reading.{Reading}
 use Rattle.differences.specs.Differences.{Difference, nameDifference, cellDifference, sheetKeys, addresses, differenceAt, wordsOf, wordsFrom, keysOf, differences}
 use Rattle.differences.proofs.Laws.{words-split, words-none, words-agree, at-key, in-name, in-gap, in-cell}

@@ -7,14 +7,14 @@ use native.Mathlib.Omega.{arith}
 use lib.ListN.{length, drop, length-drop, length-map}
 use lib.Seq.{drop-drop}
 use lib.Dec.{ltb, leb, eqb}
-use Rattle.walk.specs.Choice.{pick}
-use Rattle.walk.proofs.Choice.{pick-true, pick-false, pick-yes, pick-no, pick-le, pick-nle, pick-lt, pick-nlt, pick-any, never}
-use Rattle.walk.specs.Items.{nth, onto}
+use Rattle.steps.specs.Choice.{pick}
+use Rattle.steps.proofs.Choice.{pick-true, pick-false, pick-yes, pick-no, pick-le, pick-nle, pick-lt, pick-nlt, pick-any, never}
+use Rattle.steps.specs.Items.{nth, onto}
 use Rattle.record.specs.declared.Header.{Header}
 use Rattle.record.specs.declared.Header.the-variants.{End}
 use Rattle.record.specs.Record.{headerAt}
 use Rattle.record.proofs.Laws.{header-end}
-use Rattle.sheetlist.specs.Agreement.{Sheet}
+use Rattle.sheet_agreement.specs.Agreement.{Sheet}
 use Rattle.globals.specs.declared.Bound.the-variants as bound
 use Rattle.globals.specs.declared.Globals.{Globals}
 use Rattle.globals.specs.Sheets.{boundAt, onBound, sheetsFrom, sheetsOf}
@@ -32,10 +32,10 @@ use Rattle.listing.specs.declared.NextSheet.the-variants as nextSheet
 use Rattle.listing.specs.Listing.{nextSheetOf}
 use Rattle.listing.proofs.SheetWalk.{FirstSheet, SheetsFrom, sheets-next}
 use Rattle.differences.specs.Differences.{heldAt, same, charsOf, Difference, none, name, between, cellsIn, cellDifference, namesBetween, nameDifference, sheetKeys, addresses, wordsOf, wordsFrom, twiceIn, differences}
-use Rattle.addresses.specs.Addresses.{twiceAmong, AscendFrom, Ascends, When}
-use Rattle.addresses.proofs.Laws.{held-is, twice-is, ascend-once, when-asked}
-use Rattle.merge.specs.Merge.{puts, putTo, differs, wordsBetween, cellWords}
-use Rattle.merge.proofs.Puts.{puts-part, to-part, length-puts, puts-full, to-stays, puts-append, to-append, puts-start, start-count, start-all, start-full, start-more}
+use Rattle.cell_addresses.specs.Addresses.{twiceAmong, AscendFrom, Ascends, When}
+use Rattle.cell_addresses.proofs.Laws.{held-is, twice-is, ascend-once, when-asked}
+use Rattle.cell_differences.specs.Merge.{puts, putTo, differs, wordsBetween, cellWords}
+use Rattle.cell_differences.proofs.Puts.{puts-part, to-part, length-puts, puts-full, to-stays, puts-append, to-append, puts-start, start-count, start-all, start-full, start-more}
 use Rattle.compare.specs.declared.SheetFound.{SheetFound}
 use Rattle.compare.specs.declared.Side.{Side}
 use Rattle.compare.specs.declared.Side.the-variants as side

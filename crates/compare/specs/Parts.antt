@@ -5,14 +5,14 @@ use mathlib.Core.Bool.{Bool, true, false}
 use mathlib.Core.List.{List, [], _∷_, _++_, map}
 use lib.ListN.{length, drop}
 use lib.Dec.{ltb, leb}
-use Rattle.walk.specs.Choice.{pick}
-use Rattle.sheetlist.specs.Agreement.{Sheet}
+use Rattle.steps.specs.Choice.{pick}
+use Rattle.sheet_agreement.specs.Agreement.{Sheet}
 use Rattle.globals.specs.Sheets.{sheetsFrom, sheetsOf}
 use Rattle.reading.specs.Cells.{placeAt, listedFrom}
 use Rattle.reading.specs.Reading.{Reading, nameAt, widthAt, listedOf, sheetReading, stringsAt}
 use Rattle.differences.specs.Differences.{Difference, none, name, same, charsOf, wordsOf}
-use Rattle.addresses.specs.Addresses.{AscendFrom}
-use Rattle.merge.specs.Merge.{cellWords}
+use Rattle.cell_addresses.specs.Addresses.{AscendFrom}
+use Rattle.cell_differences.specs.Merge.{cellWords}
 use Rattle.compare.specs.declared.SheetFound.{SheetFound}
 
 abbrev pub Narrow : ℕ → Type 0

@@ -7,10 +7,10 @@ ghost use Rattle.reading.specs.Reading.{readingOf};
 ghost use Rattle.reading.specs.Cells.{placeAt, listedFrom};
 ghost use Rattle.reading.specs.Reading.{stringsAt};
 ghost use Rattle.globals.specs.Sheets.{sheetsOf};
-ghost use Rattle.equality.specs.Equality.{Tabled, Marks};
-ghost use Rattle.addresses.specs.Addresses.{When, AscendFrom};
-ghost use Rattle.abreast.specs.Abreast.{Common};
-ghost use Rattle.merge.specs.Merge.{puts, putTo};
+ghost use Rattle.cell_equality.specs.Equality.{Tabled, Marks};
+ghost use Rattle.cell_addresses.specs.Addresses.{When, AscendFrom};
+ghost use Rattle.records_abreast.specs.Abreast.{Common};
+ghost use Rattle.cell_differences.specs.Merge.{puts, putTo};
 ghost use Rattle.differences.specs.Differences.{wordsOf, twiceIn, differences};
 ghost use Rattle.compare.specs.Comparison.{comparisonOf, answerOf, bufferAfter};
 ghost use Rattle.compare.specs.Parts.{Seen, Narrow, AllAscend, BothAscend, bookOf, sameNames, nameSeen, cellsSeen, sheetSeen};
@@ -80,7 +80,7 @@ fn all_ascend(s: &[u8]) -> bool
     loop {
         let x = sheet_at(s, a);
         if x.there {
-            if addresses::ascends(s, x.start) {
+            if cell_addresses::ascends(s, x.start) {
                 a = x.next;
             } else {
                 return false;
@@ -103,7 +103,7 @@ fn twice_in(s: &[u8], up: bool) -> bool
     loop {
         let x = sheet_at(s, a);
         if x.there {
-            if doubles::twice(s, x.start) {
+            if address_twice::twice(s, x.start) {
                 return true;
             }
             a = x.next;
@@ -122,7 +122,7 @@ fn same_names(s: &[u8], h: usize, w: usize, t: &[u8], g: usize, v: usize) -> boo
 {
     let a = listing::name_at(s, h);
     let b = listing::name_at(t, g);
-    characters::same_name(a, w, b, v)
+    text_equality::same_name(a, w, b, v)
 }
 
 // The word of the names of a sheet that is in both, where they differ.
@@ -144,7 +144,7 @@ fn put_name(
             if same_names(s, x.header, x.width, t, y.header, y.width) {
                 return i;
             }
-            return merge::put(out, i, key * 4);
+            return cell_differences::put(out, i, key * 4);
         }
         return i;
     }
@@ -190,7 +190,7 @@ fn put_cells(
         let base = key + 4294967296;
         let low = past(from, base);
         if up {
-            return ascending::merge(
+            return ascending_sheets::merge(
                 s,
                 v,
                 p,
@@ -210,7 +210,7 @@ fn put_cells(
                 out,
             );
         }
-        return unordered::merge_cells(s, v, p, m, z, f, t, w, q, n, u, g, base, low, i, out);
+        return unordered_sheets::merge_cells(s, v, p, m, z, f, t, w, q, n, u, g, base, low, i, out);
     }
     i
 }
@@ -374,8 +374,8 @@ fn list_marked(
 {
     let mut z = [0u32; 3072];
     let mut u = [0u32; 3072];
-    let f = equality::mark_table(s, p, m, &mut z);
-    let g = equality::mark_table(t, q, n, &mut u);
+    let f = cell_equality::mark_table(s, p, m, &mut z);
+    let g = cell_equality::mark_table(t, q, n, &mut u);
     list(s, p, m, &z, f, t, q, n, &u, g, up, common, from, out)
 }
 

@@ -5,11 +5,11 @@ use lib.Dec.{T}
 use denote.Laws.{Is}
 use denote.Enum.Declared.{row}
 use denote.Enum.Laws.{val, owed}
-use Rattle.change.specs.declared.NewValue.{NewValue}
-use Rattle.change.specs.declared.NewValue.the-variants.{Number, Text, Truth, Error}
-use Rattle.change.specs.Change.{Held}
-use Rattle.change.proofs.NewValue.{the-type}
-use Rattle.change.proofs.NewValue.Laws.{the-laws}
+use Rattle.new_value.specs.declared.NewValue.{NewValue}
+use Rattle.new_value.specs.declared.NewValue.the-variants.{Number, Text, Truth, Error}
+use Rattle.new_value.specs.Change.{Held}
+use Rattle.new_value.proofs.NewValue.{the-type}
+use Rattle.new_value.proofs.NewValue.Laws.{the-laws}
 
 pub held : (v : NewValue) → Is (row the-type) v (val the-type the-laws v ∷ []) → Held v
 held (Number x) h = subst⁻¹ T (owed the-type the-laws (Number x) (val the-type the-laws (Number x) ∷ []) h .0 .1) tt

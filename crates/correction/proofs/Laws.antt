@@ -9,9 +9,9 @@ use native.Mathlib.Nat.{mul-le-mul-right, mul-le-mul}
 use lib.ListN.{length}
 use lib.Dec.{ltb, leb, eqb}
 use borrow.Author.Tests.{eq-eqb, ne-eqb, eqb-true, eqb-false, leb-true, leb-false, ltb-true, ltb-false}
-use Rattle.walk.specs.Choice.{pick}
-use Rattle.walk.proofs.Choice.{pick-any, pick-by, pick-true, pick-false, pick-eq, pick-ne, pick-le, pick-nle, pick-lt, pick-nlt}
-use Rattle.walk.specs.Items.{nth}
+use Rattle.steps.specs.Choice.{pick}
+use Rattle.steps.proofs.Choice.{pick-any, pick-by, pick-true, pick-false, pick-eq, pick-ne, pick-le, pick-nle, pick-lt, pick-nlt}
+use Rattle.steps.specs.Items.{nth}
 use Rattle.record.proofs.Laws.{whole}
 use Rattle.value.specs.declared.Field.{Field}
 use Rattle.value.specs.declared.Field.the-variants.{NoField, Float, RkWord, TextIndex, TruthError, StoredResult}
@@ -21,14 +21,14 @@ use Rattle.cell.specs.declared.Shape.the-variants.{BLANK, NUMBER, RK, LABELSST,
 use Rattle.cell.specs.declared.Cell.{Cell}
 use Rattle.cell.specs.Cells.{shapeOf, fieldOf, partOf, startOf, rowAt, firstAt, sized, multiple, lengthAt, countOf, cellFrom, cellsFrom, cellsOf, cellOf}
 use Rattle.cell.proofs.Sizes.{sized-below, multiple-below}
-use Rattle.change.specs.declared.NewValue.{NewValue}
-use Rattle.change.specs.declared.Plan.{Plan}
-use Rattle.change.specs.declared.Plan.the-variants as plan
-use Rattle.change.specs.declared.Answer.{Answer}
-use Rattle.change.specs.declared.Answer.the-variants as answer
-use Rattle.change.specs.Change as change
-use Rattle.change.specs.Change.{planOf, changed}
-use Rattle.sheetlist.specs.Agreement.{Sheet}
+use Rattle.new_value.specs.declared.NewValue.{NewValue}
+use Rattle.new_value.specs.declared.Plan.{Plan}
+use Rattle.new_value.specs.declared.Plan.the-variants as plan
+use Rattle.new_value.specs.declared.Answer.{Answer}
+use Rattle.new_value.specs.declared.Answer.the-variants as answer
+use Rattle.new_value.specs.Change as change
+use Rattle.new_value.specs.Change.{planOf, changed}
+use Rattle.sheet_agreement.specs.Agreement.{Sheet}
 use Rattle.globals.specs.declared.Globals.{Globals}
 use Rattle.globals.specs.Sheets.{sheetsOf}
 use Rattle.workbook.specs.declared.Checked.{Checked}
@@ -39,10 +39,10 @@ use Rattle.reading.specs.Cells.{placeAt, listedFrom}
 use Rattle.reading.specs.Reading.{startBy, listedOf}
 use Rattle.reading.specs.declared.Outside.{Outside}
 use Rattle.reading.specs.declared.Outside.the-variants as outside
-use Rattle.scan.specs.declared.Scanned.{Scanned}
-use Rattle.scan.specs.declared.Scanned.the-variants as scanned
-use Rattle.scan.specs.Scan.{scanOf}
-use Rattle.scan.proofs.Laws.{Row, Passed, Scan, scan-says}
+use Rattle.reading.specs.declared.Scanned.{Scanned}
+use Rattle.reading.specs.declared.Scanned.the-variants as scanned
+use Rattle.reading.specs.Scan.{scanOf}
+use Rattle.reading.proofs.Scanning.{Row, Passed, Scan, scan-says}
 use Rattle.listing.specs.declared.Sought.{Sought}
 use Rattle.listing.specs.declared.Sought.the-variants as sought
 use Rattle.listing.specs.Parts.{foundSheet}

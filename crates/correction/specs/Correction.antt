@@ -6,23 +6,23 @@ use mathlib.Core.List.{List, [], _∷_}
 use mathlib.Core.Bool.{_&&_}
 use lib.Dec.{ltb, eqb}
 use lib.Seq.{sets}
-use Rattle.walk.specs.Choice.{pick}
-use Rattle.walk.specs.Items.{nth}
-use Rattle.le.specs.Bytes.{bytesOf}
+use Rattle.steps.specs.Choice.{pick}
+use Rattle.steps.specs.Items.{nth}
+use Rattle.bytes.specs.Bytes.{bytesOf}
 use Rattle.value.specs.declared.Field.{Field}
 use Rattle.value.specs.Value.{widthOf}
 use Rattle.cell.specs.declared.Cell.{Cell}
-use Rattle.change.specs.declared.NewValue.{NewValue}
-use Rattle.change.specs.declared.Plan.{Plan}
-use Rattle.change.specs.declared.Plan.the-variants as plan
-use Rattle.change.specs.Change.{planOf}
-use Rattle.sheetlist.specs.Agreement.{Sheet}
+use Rattle.new_value.specs.declared.NewValue.{NewValue}
+use Rattle.new_value.specs.declared.Plan.{Plan}
+use Rattle.new_value.specs.declared.Plan.the-variants as plan
+use Rattle.new_value.specs.Change.{planOf}
+use Rattle.sheet_agreement.specs.Agreement.{Sheet}
 use Rattle.globals.specs.declared.Globals.{Globals}
 use Rattle.globals.specs.Sheets.{sheetsOf}
 use Rattle.workbook.specs.Check.{checkedOf, onChecked}
 use Rattle.reading.specs.Reading.{listedOf}
-use Rattle.change.specs.declared.Answer.{Answer}
-use Rattle.change.specs.declared.Answer.the-variants.{Granted, Refused}
+use Rattle.new_value.specs.declared.Answer.{Answer}
+use Rattle.new_value.specs.declared.Answer.the-variants.{Granted, Refused}
 
 -- what a correction comes to: a refusal, or a number for the value field of this kind at this place
 pub data Correction : Type 0 where

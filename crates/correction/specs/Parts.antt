@@ -2,13 +2,13 @@
 use Prim.Native.Nat.{ℕ, _+_, _-_, _*_, _≤_}
 use mathlib.Core.Bool.{Bool, true, false}
 use lib.Dec.{ltb, leb, eqb}
-use Rattle.walk.specs.Choice.{pick}
+use Rattle.steps.specs.Choice.{pick}
 use mathlib.Core.List.{List, [], _∷_}
-use Rattle.walk.specs.Items.{nth}
+use Rattle.steps.specs.Items.{nth}
 use Rattle.value.specs.Value.{widthOf}
 use Rattle.cell.specs.declared.Cell.{Cell}
 use Rattle.cell.specs.Cells.{shapeOf, fieldOf, partOf, startOf}
-use Rattle.sheetlist.specs.Agreement.{Sheet}
+use Rattle.sheet_agreement.specs.Agreement.{Sheet}
 use Rattle.globals.specs.Sheets.{sheetsOf}
 use Rattle.reading.specs.Reading.{listedOf}
 use Rattle.correction.specs.declared.Target.{Target}

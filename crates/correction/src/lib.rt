@@ -3,15 +3,15 @@ ghost use mathlib.Core.Path.{_≡_};
 ghost use Prim.Native.Nat.{_+_, _*_, _≤_};
 ghost use lib.ListN.{length};
 ghost use Rattle.cell.specs.Cells.{shapeOf, fieldOf, partOf, startOf};
-ghost use Rattle.change.specs.Change.{Held};
+ghost use Rattle.new_value.specs.Change.{Held};
 ghost use Rattle.reading.specs.Cells.{placeAt, listedFrom};
 ghost use Rattle.correction.specs.Correction.{cellsAt, noSheet, correctionIn, correctionOf, answerOf, streamAfter};
 ghost use Rattle.correction.specs.Parts.{targetOf, withOne, inRow, fieldOfCell, metOf, onTarget, aimIn, TargetWithin, AimWithin};
-use change::Answer;
-use change::NewValue;
 use listing::Sought;
+use new_value::Answer;
+use new_value::NewValue;
 use reading::Outside;
-use scan::Scanned;
+use reading::Scanned;
 use value::Field;
 use workbook::Checked;
 
@@ -88,19 +88,19 @@ fn field_at(id: u16, at: usize, k: usize) -> Target
 }
 
 // Whether a row of so many cells from a column on has the address.
-// Only this crate and `celltext` call it, each for the cells of one record, of which there are at most 256.
-pub fn in_row(here: u16, first: u16, count: u16, row: u32, column: u32) -> bool
+// Only this crate and `cell_text` call it, each for the cells of one record, of which there are at most 256.
+pub fn row_has(here: u16, first: u16, count: u16, row: u32, column: u32) -> bool
     requires { ⌜ count ≤ 256 ⌝ }
     ensures { λ r. ⌜ r ≡ inRow here first count row column ⌝ }
 {
-    if le::u16_as_u32(here) != row {
+    if bytes::u16_as_u32(here) != row {
         return false;
     }
-    let left = le::u16_as_u32(first);
+    let left = bytes::u16_as_u32(first);
     if column < left {
         return false;
     }
-    if column < left + le::u16_as_u32(count) {
+    if column < left + bytes::u16_as_u32(count) {
         return true;
     }
     false
@@ -117,8 +117,8 @@ fn with_one(found: Target, one: Target) -> Target
 }
 
 // What was found, with the cell of the address in this row, if it has one.
-// Only this crate and `lookup` call it, each for the cells of one record, at most 256, of a stream that is not too long.
-pub fn met(
+// Only this crate and `address_lookup` call it, each for the cells of one record, at most 256, of a stream that is not too long.
+pub fn with_cell(
     found: Target,
     id: u16,
     at: usize,
@@ -131,8 +131,8 @@ pub fn met(
     requires { ⌜ (count ≤ 256) × (at ≤ 16777216) ⌝ }
     ensures { λ r. ⌜ r ≡ metOf found id at here first count row column ⌝ }
 {
-    if in_row(here, first, count, row, column) {
-        let k = le::u32_as_usize(column - le::u16_as_u32(first));
+    if row_has(here, first, count, row, column) {
+        let k = bytes::u32_as_usize(column - bytes::u16_as_u32(first));
         return with_one(found, field_at(id, at, k));
     }
     found
@@ -148,7 +148,7 @@ fn find(s: &[u8], from: usize, row: u32, column: u32) -> Target
     let mut level: u8 = 0;
     let mut found = Target::None;
     loop {
-        match scan::scan(s, at, level) {
+        match reading::scan(s, at, level) {
             Scanned::Cells {
                 id,
                 row: here,
@@ -156,7 +156,7 @@ fn find(s: &[u8], from: usize, row: u32, column: u32) -> Target
                 count,
                 next,
             } => {
-                found = met(found, id, at, here, first, count, row, column);
+                found = with_cell(found, id, at, here, first, count, row, column);
                 at = next;
             }
             Scanned::None(o) => match o {
@@ -199,7 +199,7 @@ fn on_target(found: Target, unique: u32) -> Aim
 fn no_sheet(sheets: usize, n: u32) -> u8
     ensures { λ r. ⌜ r ≡ noSheet sheets n ⌝ }
 {
-    if le::u32_as_usize(n) < sheets {
+    if bytes::u32_as_usize(n) < sheets {
         return 17;
     }
     11
@@ -207,7 +207,14 @@ fn no_sheet(sheets: usize, n: u32) -> u8
 
 // The one cell of an address in a sheet of a stream that passes, with `unique` strings, under a template of so many sheets.
 // Only this crate and those above it call it, each after the check.
-pub fn aim_in(s: &[u8], unique: u32, sheets: usize, sheet: u32, row: u32, column: u32) -> Aim
+pub fn cell_of_address(
+    s: &[u8],
+    unique: u32,
+    sheets: usize,
+    sheet: u32,
+    row: u32,
+    column: u32,
+) -> Aim
     requires { ⌜ length (now s) ≤ 16777216 ⌝ }
     ensures { λ r. ⌜ r ≡ aimIn (now (s .entry)) unique sheets sheet row column ⌝ }
     ensures { λ r. ⌜ AimWithin (length (now (s .entry))) r ⌝ }
@@ -222,7 +229,7 @@ pub fn aim_in(s: &[u8], unique: u32, sheets: usize, sheet: u32, row: u32, column
             position,
             kind,
         } => {
-            let start = listing::start_of(s, position, kind);
+            let start = listing::first_place(s, position, kind);
             let found = find(s, start.at, row, column);
             on_target(found, unique)
         }
@@ -246,13 +253,13 @@ pub fn correct_in(
     ensures { λ r. ⌜ now (s .exit) ≡ streamAfter (now (s .entry)) (correctionIn (now (s .entry)) unique sheets sheet row column value) ⌝ }
     ensures { λ r. ⌜ Held value ⌝ }
 {
-    match aim_in(&s[..], unique, sheets, sheet, row, column) {
+    match cell_of_address(&s[..], unique, sheets, sheet, row, column) {
         Aim::Refused { number, offset } => Answer::Refused { number, offset },
         Aim::At {
             kind,
             field,
             unique,
-        } => change::write_value(s, kind, field, value, unique),
+        } => new_value::write_value(s, kind, field, value, unique),
     }
 }
 

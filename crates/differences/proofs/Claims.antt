@@ -7,8 +7,8 @@ use mathlib.Core.List.{List, [], _∷_, _++_}
 use native.Mathlib.Omega.{arith}
 use lib.Dec.{ltb, eqb}
 use borrow.Author.Tests.{ltb-true, ltb-false, eqb-true, eqb-false}
-use Rattle.walk.proofs.Choice.{pick-true, pick-ne, pick-any}
-use Rattle.walk.specs.Items.{nth}
+use Rattle.steps.proofs.Choice.{pick-true, pick-ne, pick-any}
+use Rattle.steps.specs.Items.{nth}
 use Rattle.value.specs.declared.FormulaResult.the-variants as result
 use Rattle.value.specs.declared.CellValue.{CellValue}
 use Rattle.value.specs.declared.CellValue.the-variants as value

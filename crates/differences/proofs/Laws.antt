@@ -7,9 +7,9 @@ use native.Mathlib.Omega.{arith}
 use lib.ListN.{length}
 use lib.Dec.{eqb}
 use borrow.Author.Tests.{eqb-true}
-use Rattle.walk.specs.Choice.{pick}
-use Rattle.walk.proofs.Choice.{pick-eq, pick-ne, pick-lt, pick-nlt, pick-any, never}
-use Rattle.walk.specs.Items.{nth}
+use Rattle.steps.specs.Choice.{pick}
+use Rattle.steps.proofs.Choice.{pick-eq, pick-ne, pick-lt, pick-nlt, pick-any, never}
+use Rattle.steps.specs.Items.{nth}
 use Rattle.reading.specs.Reading.{SheetReading, Reading}
 use Rattle.differences.specs.Differences.{same, heldAt, Difference, none, cellsIn, cellDifference, namesBetween, nameDifference, sheetKeys, addresses, nameKey, cellKey, differenceIn, differenceAt, wordsOf, wordsFrom, keysOf}
 

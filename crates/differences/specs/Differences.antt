@@ -5,9 +5,9 @@ use mathlib.Core.Bool.{Bool, true, false, _||_}
 use mathlib.Core.List.{List, [], _∷_, _++_}
 use lib.ListN.{length, getD}
 use lib.Dec.{ltb, eqb}
-use Rattle.walk.specs.Choice.{pick}
-use Rattle.walk.specs.Items.{nth}
-use Rattle.le.specs.Bytes.{numAt}
+use Rattle.steps.specs.Choice.{pick}
+use Rattle.steps.specs.Items.{nth}
+use Rattle.bytes.specs.Bytes.{numAt}
 use Rattle.number.specs.Float64.{bitsOf}
 use Rattle.value.specs.declared.FormulaResult.{FormulaResult}
 use Rattle.value.specs.declared.FormulaResult.the-variants as result

@@ -1,7 +1,7 @@
 -- The units of the text result of a cell by its value and the place of its value field.
 use Prim.Native.Nat.{ℕ, _-_}
 use mathlib.Core.List.{List, []}
-use Rattle.walk.specs.Choice.{pick}
+use Rattle.steps.specs.Choice.{pick}
 use Rattle.value.specs.declared.CellValue.{CellValue}
 use Rattle.reading.specs.Reading.{saysText, textAfter}
 

@@ -8,9 +8,9 @@ use native.Mathlib.Omega.{arith}
 use lib.ListN.{length}
 use lib.Dec.{eqb}
 use borrow.Author.Tests.{eqb-true, ne-eqb}
-use Rattle.walk.proofs.Choice.{never, pick-eq, pick-lt, pick-nlt, pick-false, pick-any, pick-by}
-use Rattle.walk.specs.Items.{Lists, at-end, and-then}
-use Rattle.le.specs.Bytes.{u16At, u32At}
+use Rattle.steps.proofs.Choice.{never, pick-eq, pick-lt, pick-nlt, pick-false, pick-any, pick-by}
+use Rattle.steps.specs.Items.{Lists, at-end, and-then}
+use Rattle.bytes.specs.Bytes.{u16At, u32At}
 use Rattle.record.specs.declared.Header.{Header}
 use Rattle.record.specs.declared.Header.the-variants as header
 use Rattle.record.specs.Record.{headerAt}

@@ -6,25 +6,25 @@ use mathlib.Core.Logic.{inl, inr}
 use native.Mathlib.Omega.{arith}
 use lib.ListN.{length, getD}
 use lib.Dec.{ltb}
-use Rattle.walk.proofs.Choice.{pick-any, pick-eq, pick-ne}
-use Rattle.walk.specs.Items.{nth}
-use Rattle.le.specs.Bytes.{u16At}
+use Rattle.steps.proofs.Choice.{pick-any, pick-eq, pick-ne}
+use Rattle.steps.specs.Items.{nth}
+use Rattle.bytes.specs.Bytes.{u16At}
 use Rattle.strings.specs.declared.Fetched.{Fetched}
 use Rattle.strings.specs.declared.Fetched.the-variants.{Refused}
 use Rattle.strings.specs.Table.{placesOf, stringsOf, unitsOf, fetchedOf, bufferOf}
 use Rattle.strings.proofs.Local.{strings-at, strings-length}
-use Rattle.sheetlist.specs.declared.Agreement.{Agreement}
-use Rattle.sheetlist.specs.declared.Agreement.the-variants.{Agree, Disagree}
-use Rattle.sheetlist.specs.Agreement.{agreementOf}
+use Rattle.sheet_agreement.specs.declared.Agreement.{Agreement}
+use Rattle.sheet_agreement.specs.declared.Agreement.the-variants.{Agree, Disagree}
+use Rattle.sheet_agreement.specs.Agreement.{agreementOf}
 use Rattle.globals.specs.declared.Globals.{Globals}
 use Rattle.globals.specs.declared.Ended.{Ended}
 use Rattle.globals.specs.declared.Ended.the-variants as globals
 use Rattle.globals.specs.Globals.{globalsOf}
 use Rattle.globals.specs.Sheets.{sheetsOf}
 use Rattle.globals.proofs.Table.{Stands, TableTold, table-told}
-use Rattle.toplevel.specs.declared.Walked.{Walked}
-use Rattle.toplevel.specs.declared.Walked.the-variants as walked
-use Rattle.toplevel.specs.TopLevel.{topsFrom, bofsFrom}
+use Rattle.top_level.specs.declared.Walked.{Walked}
+use Rattle.top_level.specs.declared.Walked.the-variants as walked
+use Rattle.top_level.specs.TopLevel.{topsFrom, bofsFrom}
 use Rattle.workbook.specs.declared.Checked.{Checked}
 use Rattle.workbook.specs.declared.Checked.the-variants.{Right, Wrong}
 use Rattle.workbook.specs.Check.{agreed, onWalked, onGlobals, checkedOf, onChecked}

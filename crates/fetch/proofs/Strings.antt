@@ -4,8 +4,8 @@ use mathlib.Core.Path.{_≡_, refl, sym, ap, _∙_}
 use mathlib.Core.List.{List}
 use native.Mathlib.Omega.{arith}
 use lib.ListN.{length}
-use Rattle.walk.proofs.Choice.{pick-eq, pick-ne, pick-lt, pick-nlt, refl′}
-use Rattle.le.specs.Bytes.{u16At}
+use Rattle.steps.proofs.Choice.{pick-eq, pick-ne, pick-lt, pick-nlt, refl′}
+use Rattle.bytes.specs.Bytes.{u16At}
 use Rattle.segments.specs.declared.Cursor.{Cursor}
 use Rattle.segments.specs.declared.Moved.{Moved}
 use Rattle.segments.specs.Segments.{Got, got, refused, then, listOf}

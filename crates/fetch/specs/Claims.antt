@@ -3,7 +3,7 @@ use Prim.Native.Nat.{ℕ, _≤_, _<_}
 use mathlib.Core.Path.{_≡_}
 use mathlib.Core.List.{List, _++_}
 use lib.ListN.{length, drop}
-use Rattle.walk.specs.Items.{Lists}
+use Rattle.steps.specs.Items.{Lists}
 use Rattle.segments.specs.declared.Cursor.{Cursor}
 use Rattle.globals.specs.declared.Globals.{Globals}
 use Rattle.workbook.specs.declared.Checked.the-variants.{Right}

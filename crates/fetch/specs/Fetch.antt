@@ -2,7 +2,7 @@
 use Prim.Native.Nat.{ℕ}
 use mathlib.Core.List.{List}
 use lib.ListN.{length}
-use Rattle.walk.specs.Items.{nth}
+use Rattle.steps.specs.Items.{nth}
 use Rattle.strings.specs.declared.Fetched.{Fetched}
 use Rattle.strings.specs.declared.Fetched.the-variants.{Refused}
 use Rattle.strings.specs.Table.{fetchedOf, bufferOf}

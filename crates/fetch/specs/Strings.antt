@@ -3,8 +3,8 @@ use Prim.Native.Nat.{ℕ, _+_}
 use mathlib.Core.List.{List}
 use lib.ListN.{length}
 use lib.Dec.{ltb, eqb}
-use Rattle.walk.specs.Choice.{pick}
-use Rattle.le.specs.Bytes.{u16At}
+use Rattle.steps.specs.Choice.{pick}
+use Rattle.bytes.specs.Bytes.{u16At}
 use Rattle.segments.specs.declared.Cursor.{Cursor}
 use Rattle.segments.specs.Segments.{Got, got, refused}
 use Rattle.strings.specs.declared.Fetched.{Fetched}

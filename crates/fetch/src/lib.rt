@@ -2,7 +2,7 @@
 ghost use mathlib.Core.Path.{_≡_};
 ghost use Prim.Native.Nat.{_+_, _≤_};
 ghost use lib.ListN.{length};
-ghost use Rattle.le.specs.Bytes.{u16At};
+ghost use Rattle.bytes.specs.Bytes.{u16At};
 ghost use Rattle.segments.specs.Parts.{Inside};
 ghost use Rattle.strings.specs.Table.{stringAt, nowhere};
 ghost use Rattle.fetch.specs.Fetch.{answerOf, bufferAfter};
@@ -24,7 +24,7 @@ fn table_end(s: &[u8], p: usize) -> usize
     requires { ⌜ p + 4 + u16At (now s) (p + 2) ≤ length (now s) ⌝ }
     ensures { λ r. ⌜ r ≡ p + 4 + u16At (now (s .entry)) (p + 2) ⌝ }
 {
-    p + 4 + le::u16_as_usize(le::u16_at(s, p + 2))
+    p + 4 + bytes::u16_as_usize(bytes::u16_at(s, p + 2))
 }
 
 // The units of string `index`, counted from 0, at the front of the buffer; the answer says how many.
@@ -44,7 +44,7 @@ pub fn fetch(s: &[u8], index: u32, buf: &mut [u16]) -> Fetched
                 };
             }
             let end = table_end(s, table);
-            strings::fetch_string(s, table, end, le::u32_as_usize(index), buf)
+            strings::fetch_string(s, table, end, bytes::u32_as_usize(index), buf)
         }
     }
 }
@@ -74,7 +74,7 @@ pub fn first_string(s: &[u8], table: usize) -> Cursor
     if s.len() - 12 < table {
         return nowhere();
     }
-    let size = le::u16_as_usize(le::u16_at(s, table + 2));
+    let size = bytes::u16_as_usize(bytes::u16_at(s, table + 2));
     if s.len() - (table + 4) < size {
         return nowhere();
     }

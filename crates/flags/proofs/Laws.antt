@@ -14,8 +14,8 @@ use lib.Pow.{pow-pos, shl-exact, shr-shr, field, mod-mod-pow}
 use lib.Bits.{bitAnd, bitOr, or-step, or-zero-r, and-le-l, and-mask}
 use lib.Count.{onesIn, ones, ones-step, ones-le}
 use borrow.Author.Tests.{eqb-true, eqb-false, eq-eqb, ne-eqb}
-use Rattle.walk.specs.Choice.{pick}
-use Rattle.walk.proofs.Choice.{pick-ne}
+use Rattle.steps.specs.Choice.{pick}
+use Rattle.steps.proofs.Choice.{pick-ne}
 use Rattle.flags.specs.Flags.{bitAt, flagAt, setBelow}
 use Rattle.flags.specs.Parts.{SetOne, Ranked}
 

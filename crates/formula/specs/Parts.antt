@@ -1,37 +1,65 @@
--- What only inner contracts cite.
-use Prim.Native.Nat.{ℕ, suc, _+_, _-_, _≤_}
+-- What only inner contracts cite: the trailing data and the jumps seen in one walk over the tokens.
+use Prim.Native.Nat.{ℕ, suc, _+_, _≤_}
 use mathlib.Core.Path.{_≡_}
-use mathlib.Core.List.{List}
+use mathlib.Core.List.{List, [], _∷_}
 use lib.Dec.{ltb}
 use lib.ListN.{length, drop}
-use Rattle.walk.specs.Choice.{pick}
-use Rattle.formula.specs.declared.Judgement.{Judgement}
-use Rattle.formula.specs.declared.Judgement.the-variants as judgement
-use Rattle.formula.specs.declared.Step.{Step}
-use Rattle.formula.specs.declared.Step.the-variants.{Next, Refused}
-use Rattle.formula.specs.Judge.{formulaOf}
+use Rattle.steps.specs.Choice.{pick}
+use Rattle.bytes.specs.Bytes.{byteAt}
+use Rattle.tokens.specs.declared.Judgement.{Judgement}
+use Rattle.tokens.specs.declared.Judgement.the-variants.{Accepted, Refused}
+use Rattle.jumps.specs.Jumps.{landsOf}
+use Rattle.formula.specs.declared.Seen.{Seen}
+use Rattle.formula.specs.declared.Seen.the-variants.{Used, Astray, Spoilt}
+use Rattle.formula.specs.declared.Visit.{Visit}
+use Rattle.formula.specs.declared.Visit.the-variants.{Next, End}
+use Rattle.formula.specs.Judge.{Place, placesOf, dataOf, onData}
 
-abbrev pub plainStep : ℕ → ℕ → ℕ → ℕ → ℕ → Step
-plainStep offset stack size takes gives = pick (ltb stack takes) (Refused 14 offset) (Next size (stack - takes + gives))
+-- after a token whose data starts at `at`
+unfoldable pub usedOf : List ℕ → ℕ → ℕ → List ℕ → ℕ → Seen
+usedOf t offset depth d at = onData (Spoilt at) (λ size. pick (landsOf t offset depth) (Used (at + size)) (Astray (at + size) offset)) (dataOf (byteAt t 0) (drop at d))
 
-abbrev pub memoryStep : ℕ → ℕ → Judgement → Step
-memoryStep size stack judgement.Accepted = Next size (stack + 1)
-memoryStep size stack (judgement.Refused number offset) = Refused number offset
+unfoldable pub astrayOf : List ℕ → List ℕ → ℕ → ℕ → Seen
+astrayOf t d at jump = onData (Spoilt at) (λ size. Astray (at + size) jump) (dataOf (byteAt t 0) (drop at d))
 
-abbrev pub onStep : (ℕ → ℕ → Judgement) → Step → Judgement
-onStep rest (Next size stack) = rest size stack
-onStep rest (Refused number offset) = judgement.Refused number offset
+abbrev pub seenAfter : List ℕ → ℕ → ℕ → List ℕ → Seen → Seen
+seenAfter t offset depth d (Used at) = usedOf t offset depth d at
+seenAfter t offset depth d (Astray at jump) = astrayOf t d at jump
+seenAfter t offset depth d (Spoilt at) = Spoilt at
 
--- r is the judgement of a formula from a token on, whatever bound on the tokens is enough
-unfoldable pub Right : List ℕ → ℕ → ℕ → ℕ → Judgement → Type 0
-Right t offset stack depth r = (k : ℕ) → length t ≤ k → r ≡ formulaOf k t offset stack depth
+unfoldable pub seenOf : List ℕ → List Place → Seen → Seen
+seenOf d [] s = s
+seenOf d (p ∷ ps) s = seenOf d ps (seenAfter (p .bytes) (p .offset) (p .depth) d s)
 
--- the judgement from a token on is what its step leads to
-unfoldable pub RightStep : List ℕ → ℕ → ℕ → ℕ → Step → Type 0
-RightStep t offset stack depth s =
-    (k : ℕ) → length t ≤ suc k → onStep (λ size left. formulaOf k (drop size t) (offset + size) left depth) s ≡ formulaOf (suc k) t offset stack depth
+-- what was seen of all tokens, as a judgement
+unfoldable pub unlessLeft : List ℕ → ℕ → ℕ → Judgement → Judgement
+unlessLeft d end at answer = pick (ltb at (length d)) (Refused 13 (end + at)) answer
 
--- a step passes a byte at least, of `left` bytes, and adds one operand at most
-unfoldable pub StepWithin : ℕ → ℕ → Step → Type 0
-StepWithin left stack (Next size n) = (1 ≤ size) × (size ≤ left) × (n ≤ stack + 1)
-StepWithin left stack (Refused number offset) = Unit
+abbrev pub verdictOf : List ℕ → ℕ → Seen → Judgement
+verdictOf d end (Used at) = unlessLeft d end at Accepted
+verdictOf d end (Astray at jump) = unlessLeft d end at (Refused 13 jump)
+verdictOf d end (Spoilt at) = Refused 13 (end + at)
+
+-- the place in the trailing bytes lies within them
+unfoldable pub SeenWithin : ℕ → Seen → Type 0
+SeenWithin left (Used at) = at ≤ left
+SeenWithin left (Astray at jump) = at ≤ left
+SeenWithin left (Spoilt at) = at ≤ left
+
+-- r is what is seen after the tokens from one on, whatever bound on them is enough
+unfoldable pub Right : List ℕ → ℕ → ℕ → List ℕ → Seen → Seen → Type 0
+Right t offset depth d s r = (k : ℕ) → length t ≤ k → r ≡ seenOf d (placesOf k t offset depth) s
+
+abbrev pub onVisit : (ℕ → Seen → Seen) → Visit → Seen
+onVisit rest (Next size s) = rest size s
+onVisit rest (End s) = s
+
+-- what is seen from a token on is what its visit leads to
+unfoldable pub RightVisit : List ℕ → ℕ → ℕ → List ℕ → Seen → Visit → Type 0
+RightVisit t offset depth d s v =
+    (k : ℕ) → length t ≤ suc k → onVisit (λ size n. seenOf d (placesOf k (drop size t) (offset + size) depth) n) v ≡ seenOf d (placesOf (suc k) t offset depth) s
+
+-- a visit passes a byte at least, of `left` bytes
+unfoldable pub VisitWithin : ℕ → ℕ → Visit → Type 0
+VisitWithin left trailing (Next size s) = (1 ≤ size) × (size ≤ left) × SeenWithin trailing s
+VisitWithin left trailing (End s) = SeenWithin trailing s

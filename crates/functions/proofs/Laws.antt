@@ -8,7 +8,7 @@ use mathlib.Core.List.{List, [], _∷_}
 use native.Mathlib.Omega.{arith}
 use lib.Dec.{T, eqb, ltb, leb, ltb→lt, leb→le}
 use lib.Ieee.Fits.{and-l, and-r}
-use Rattle.walk.proofs.Choice.{pick-any, pick-ne}
+use Rattle.steps.proofs.Choice.{pick-any, pick-ne}
 use Rattle.functions.specs.declared.Counts.{Counts}
 use Rattle.functions.specs.declared.Counts.the-variants.{Missing, Range}
 use Rattle.functions.specs.Counts.{Function, _takes_to_, functions, find, countsOf, Capped}

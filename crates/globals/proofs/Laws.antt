@@ -5,9 +5,9 @@ use mathlib.Core.List.{List}
 use native.Mathlib.Omega.{arith}
 use native.Mathlib.Nat.{mul-le-mul}
 use lib.ListN.{length}
-use Rattle.walk.proofs.Choice.{pick-any, pick-eq, pick-ne}
-use Rattle.walk.specs.Walk.{Next, more, stop}
-use Rattle.walk.proofs.Walk.{run-more, run-stop, run-keeps}
+use Rattle.steps.proofs.Choice.{pick-any, pick-eq, pick-ne}
+use Rattle.steps.specs.Walk.{Next, more, stop}
+use Rattle.steps.proofs.Walk.{run-more, run-stop, run-keeps}
 use Rattle.record.specs.declared.Header.{Header}
 use Rattle.record.specs.declared.Header.the-variants.{Record, Cut, End}
 use Rattle.record.specs.Record.{headerAt}

@@ -5,14 +5,14 @@ use mathlib.Core.List.{List, [], _∷_}
 use native.Mathlib.Omega.{arith}
 use lib.ListN.{length}
 use borrow.Author.Tests.{ltb-false}
-use Rattle.walk.proofs.Choice.{pick-any, pick-by}
-use Rattle.walk.specs.Items.{onto}
-use Rattle.walk.proofs.Items.{Nearer, collect-step}
+use Rattle.steps.proofs.Choice.{pick-any, pick-by}
+use Rattle.steps.specs.Items.{onto}
+use Rattle.steps.proofs.Items.{Nearer, collect-step}
 use Rattle.record.specs.declared.Header.{Header}
 use Rattle.record.specs.declared.Header.the-variants.{Record, Cut, End}
 use Rattle.record.specs.Record.{headerAt}
 use Rattle.record.proofs.Laws.{Whole, whole}
-use Rattle.sheetlist.specs.Agreement.{Sheet}
+use Rattle.sheet_agreement.specs.Agreement.{Sheet}
 use Rattle.globals.specs.declared.Bound.{Bound}
 use Rattle.globals.specs.declared.Bound.the-variants as bound
 use Rattle.globals.specs.Sheets.{sheetAt, onBound, boundAt, sheetItem, sheetsFrom}

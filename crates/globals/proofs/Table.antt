@@ -5,11 +5,11 @@ use mathlib.Core.List.{List}
 use mathlib.Core.Logic.{_⊎_, inl, inr}
 use native.Mathlib.Omega.{arith}
 use lib.ListN.{length}
-use Rattle.walk.specs.Walk.{more, stop}
-use Rattle.walk.proofs.Walk.{run-keeps}
+use Rattle.steps.specs.Walk.{more, stop}
+use Rattle.steps.proofs.Walk.{run-keeps}
 use borrow.Author.Tests.{eqb-true}
-use Rattle.walk.proofs.Choice.{pick-any, pick-by}
-use Rattle.le.specs.Bytes.{u16At}
+use Rattle.steps.proofs.Choice.{pick-any, pick-by}
+use Rattle.bytes.specs.Bytes.{u16At}
 use Rattle.record.specs.declared.Header.{Header}
 use Rattle.record.specs.declared.Header.the-variants.{Record, Cut, End}
 use Rattle.record.specs.Record.{headerAt}

@@ -4,9 +4,9 @@ use mathlib.Core.List.{List}
 use mathlib.Core.Bool.{Bool, true, false}
 use lib.ListN.{length}
 use lib.Dec.{ltb, leb, eqb}
-use Rattle.walk.specs.Choice.{pick}
-use Rattle.walk.specs.Walk.{Next, more, stop, run}
-use Rattle.le.specs.Bytes.{byteAt, u16At}
+use Rattle.steps.specs.Choice.{pick}
+use Rattle.steps.specs.Walk.{Next, more, stop, run}
+use Rattle.bytes.specs.Bytes.{byteAt, u16At}
 use Rattle.record.specs.declared.Header.{Header}
 use Rattle.record.specs.declared.Header.the-variants.{Record, Cut, End}
 use Rattle.record.specs.Record.{headerAt}

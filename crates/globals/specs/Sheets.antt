@@ -3,13 +3,13 @@ use Prim.Native.Nat.{ℕ, _+_, _-_}
 use mathlib.Core.List.{List}
 use lib.ListN.{length}
 use lib.Dec.{ltb, eqb}
-use Rattle.walk.specs.Choice.{pick}
-use Rattle.walk.specs.Items.{Item, gives, skips, ends, collect}
-use Rattle.le.specs.Bytes.{byteAt, u32At}
+use Rattle.steps.specs.Choice.{pick}
+use Rattle.steps.specs.Items.{Item, gives, skips, ends, collect}
+use Rattle.bytes.specs.Bytes.{byteAt, u32At}
 use Rattle.record.specs.declared.Header.{Header}
 use Rattle.record.specs.declared.Header.the-variants.{Record, Cut, End}
 use Rattle.record.specs.Record.{headerAt}
-use Rattle.sheetlist.specs.Agreement.{Sheet}
+use Rattle.sheet_agreement.specs.Agreement.{Sheet}
 use Rattle.globals.specs.declared.Bound.{Bound}
 use Rattle.globals.specs.declared.Bound.the-variants as bound
 

@@ -69,7 +69,7 @@ fn sheet_size(name: u8, flags: u8) -> usize
     requires { ⌜ name ≤ 31 ⌝ }
     ensures { λ r. ⌜ r ≡ 8 + name * widthOf flags ⌝ }
 {
-    8 + le::byte_as_usize(name) * segments::width_of(flags)
+    8 + bytes::byte_as_usize(name) * segments::width_of(flags)
 }
 
 fn sheet_fits(size: usize, kind: u8, name: u8, flags: u8) -> bool
@@ -239,10 +239,10 @@ fn is_globals_bof(s: &[u8], id: u16, size: usize) -> bool
     if size != 16 {
         return false;
     }
-    if le::u16_at(s, 4) != 0x0600 {
+    if bytes::u16_at(s, 4) != 0x0600 {
         return false;
     }
-    if le::u16_at(s, 6) != 0x0005 {
+    if bytes::u16_at(s, 6) != 0x0005 {
         return false;
     }
     true
@@ -302,14 +302,14 @@ fn sheet_at(s: &[u8], at: usize, size: usize, end: usize) -> Bound
 {
     Bound::Sheet {
         header: at,
-        position: le::u32_at(s, at + 4),
+        position: bytes::u32_at(s, at + 4),
         kind: type_kind(s[at + 9]),
         next: end,
     }
 }
 
 // The record at a place of the globals, as the sheet list takes it.
-pub fn bound_at(s: &[u8], at: usize) -> Bound
+pub fn boundsheet_at(s: &[u8], at: usize) -> Bound
     ensures { λ r. ⌜ r ≡ boundAt (now (s .entry)) at ⌝ }
 {
     match record::header_at(s, at) {

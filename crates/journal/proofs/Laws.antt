@@ -7,19 +7,19 @@ use native.Mathlib.Omega.{arith}
 use lib.ListN.{length}
 use lib.Dec.{eqb}
 use lib.Seq.{sets}
-use Rattle.walk.proofs.Choice.{pick-any, pick-by, pick-true, pick-false, pick-eq, pick-ne, pick-lt, pick-nlt}
-use Rattle.le.specs.Bytes.{numAt, bytesOf}
+use Rattle.steps.proofs.Choice.{pick-any, pick-by, pick-true, pick-false, pick-eq, pick-ne, pick-lt, pick-nlt}
+use Rattle.bytes.specs.Bytes.{numAt, bytesOf}
 use Rattle.value.specs.declared.Field.{Field}
 use Rattle.value.specs.declared.Field.the-variants.{NoField, Float, RkWord, TextIndex, TruthError, StoredResult}
 use Rattle.value.specs.Value.{widthOf}
 use Rattle.number.specs.Float64.{bitsOf}
-use Rattle.change.specs.declared.NewValue.{NewValue}
-use Rattle.change.specs.declared.NewValue.the-variants as value
-use Rattle.change.specs.declared.Plan.{Plan}
-use Rattle.change.specs.declared.Plan.the-variants as plan
-use Rattle.change.specs.declared.Answer.{Answer}
-use Rattle.change.specs.declared.Answer.the-variants as answer
-use Rattle.change.specs.Change.{planOf}
+use Rattle.new_value.specs.declared.NewValue.{NewValue}
+use Rattle.new_value.specs.declared.NewValue.the-variants as value
+use Rattle.new_value.specs.declared.Plan.{Plan}
+use Rattle.new_value.specs.declared.Plan.the-variants as plan
+use Rattle.new_value.specs.declared.Answer.{Answer}
+use Rattle.new_value.specs.declared.Answer.the-variants as answer
+use Rattle.new_value.specs.Change.{planOf}
 use Rattle.globals.specs.declared.Globals.{Globals}
 use Rattle.workbook.specs.declared.Checked.{Checked}
 use Rattle.workbook.specs.declared.Checked.the-variants.{Right, Wrong}
@@ -28,9 +28,9 @@ use Rattle.correction.specs.declared.Aim.{Aim}
 use Rattle.correction.specs.declared.Aim.the-variants as aim
 use Rattle.correction.specs.Parts.{aimIn, AimWithin}
 use Rattle.correction.specs.Correction.{Correction, refuses, answerOf, streamAfter}
-use Rattle.entries.specs.Entries.{header, journalFits, roomFor, logged}
-use Rattle.entries.specs.Parts.{Room, RoomIf, entryBy}
-use Rattle.entries.proofs.Laws.{fits-long}
+use Rattle.journal.specs.Entries.{header, journalFits, roomFor, logged}
+use Rattle.journal.specs.EntryParts.{Room, RoomIf, entryBy}
+use Rattle.journal.proofs.Entries.{fits-long}
 use Rattle.journal.specs.Journal.{declines, begins, startIn, startOf, startAnswer, startedJournal, onRoom, spotIn, planned, onSpot, journalledIn, journalledOf, kindOf, numberOf, entryOf, journalAfter}
 use Rattle.journal.specs.Parts.{SpotWithin}
 

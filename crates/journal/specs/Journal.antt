@@ -5,25 +5,25 @@ use mathlib.Core.Bool.{Bool}
 use mathlib.Core.List.{List}
 use lib.ListN.{length}
 use lib.Dec.{ltb, eqb}
-use Rattle.walk.specs.Choice.{pick}
-use Rattle.le.specs.Bytes.{numAt}
+use Rattle.steps.specs.Choice.{pick}
+use Rattle.bytes.specs.Bytes.{numAt}
 use Rattle.number.specs.Float64.{bitsOf}
 use Rattle.value.specs.declared.Field.{Field}
 use Rattle.value.specs.Value.{widthOf}
-use Rattle.change.specs.declared.NewValue.{NewValue}
-use Rattle.change.specs.declared.NewValue.the-variants.{Number, Text, Truth, Error}
-use Rattle.change.specs.declared.Plan.{Plan}
-use Rattle.change.specs.declared.Plan.the-variants as plan
-use Rattle.change.specs.declared.Answer.{Answer}
-use Rattle.change.specs.declared.Answer.the-variants as answer
-use Rattle.change.specs.Change.{planOf}
+use Rattle.new_value.specs.declared.NewValue.{NewValue}
+use Rattle.new_value.specs.declared.NewValue.the-variants.{Number, Text, Truth, Error}
+use Rattle.new_value.specs.declared.Plan.{Plan}
+use Rattle.new_value.specs.declared.Plan.the-variants as plan
+use Rattle.new_value.specs.declared.Answer.{Answer}
+use Rattle.new_value.specs.declared.Answer.the-variants as answer
+use Rattle.new_value.specs.Change.{planOf}
 use Rattle.globals.specs.declared.Globals.{Globals}
 use Rattle.workbook.specs.Check.{checkedOf, onChecked}
 use Rattle.correction.specs.declared.Aim.{Aim}
 use Rattle.correction.specs.declared.Aim.the-variants as aim
 use Rattle.correction.specs.Correction.{Correction, refuses, writes}
 use Rattle.correction.specs.Parts.{aimIn}
-use Rattle.entries.specs.Entries.{header, Entry, journalFits, roomFor, logged}
+use Rattle.journal.specs.Entries.{header, Entry, journalFits, roomFor, logged}
 
 -- ---- starting
 pub data Start : Type 0 where

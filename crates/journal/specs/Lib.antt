@@ -1,2 +1,4 @@
+pub mod Entries
+pub mod EntryParts
 pub mod Journal
 pub mod Parts

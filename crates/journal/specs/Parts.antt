@@ -5,7 +5,7 @@ use lib.ListN.{length}
 use Rattle.value.specs.Value.{widthOf}
 use Rattle.correction.specs.declared.Aim.{Aim}
 use Rattle.correction.specs.declared.Aim.the-variants as aim
-use Rattle.entries.specs.Parts.{Room}
+use Rattle.journal.specs.EntryParts.{Room}
 
 -- the value field lies within the stream, and one entry more within the journal
 abbrev pub SpotWithin : List ℕ → List ℕ → Aim → Type 0

@@ -1,24 +1,240 @@
-// A journal of granted corrections: start one; correct a cell and write the entry.
+// A journal of granted corrections: its form, and what is written to it; start one; correct a cell and write the entry.
 ghost use mathlib.Core.Path.{_≡_};
-ghost use Prim.Native.Nat.{_+_, _≤_};
+ghost use Prim.Native.Nat.{_+_, _*_, _≤_};
 ghost use lib.ListN.{length};
-ghost use lib.Seq.{sets};
-ghost use Rattle.le.specs.Bytes.{bytesOf};
+ghost use Rattle.bytes.specs.Bytes.{numAt, bytesOf};
 ghost use Rattle.value.specs.Value.{widthOf};
+ghost use Rattle.journal.specs.Entries.{header, numberFits, countsFit, entryFits, fitsAt, entriesFit, journalFits, roomFor, entered, logged};
+ghost use Rattle.journal.specs.EntryParts.{addressed, valued, Room, RoomIf, entryBy};
+ghost use lib.Seq.{sets};
 ghost use Rattle.correction.specs.Correction.{answerOf, streamAfter};
-ghost use Rattle.entries.specs.Entries.{logged};
-ghost use Rattle.entries.specs.Parts.{Room};
 ghost use Rattle.journal.specs.Journal.{startIn, startOf, startAnswer, startedJournal, onRoom, spotIn, journalledIn, journalledOf, kindOf, numberOf, journalAfter, entryOf};
 ghost use Rattle.journal.specs.Parts.{SpotWithin};
-use change::Answer;
-use change::NewValue;
-use change::Plan;
 use correction::Aim;
+use new_value::Answer;
+use new_value::NewValue;
+use new_value::Plan;
 use value::Field;
 use workbook::Checked;
 
+// ---- the form of a journal
+fn number_fits(width: u16, old: u64) -> bool
+    ensures { λ r. ⌜ r ≡ numberFits width old ⌝ }
+{
+    if width == 8 {
+        return true;
+    }
+    if width == 4 {
+        if old < 0x1_0000_0000 {
+            return true;
+        }
+        return false;
+    }
+    false
+}
+
+fn index_fits(width: u16, old: u64, new: u64) -> bool
+    ensures { λ r. ⌜ r ≡ countsFit 4 4 width old new ⌝ }
+{
+    if width == 4 {
+        if old < 0x1_0000_0000 {
+            if new < 0x1_0000_0000 {
+                return true;
+            }
+            return false;
+        }
+        return false;
+    }
+    false
+}
+
+fn pair_fits(width: u16, old: u64, new: u64) -> bool
+    ensures { λ r. ⌜ r ≡ countsFit 2 1 width old new ⌝ }
+{
+    if width == 2 {
+        if old < 0x1_0000 {
+            if new < 0x100 {
+                return true;
+            }
+            return false;
+        }
+        return false;
+    }
+    false
+}
+
+fn entry_fits(kind: u16, width: u16, old: u64, new: u64) -> bool
+    ensures { λ r. ⌜ r ≡ entryFits kind width old new ⌝ }
+{
+    if kind == 0 {
+        return number_fits(width, old);
+    }
+    if kind == 1 {
+        return index_fits(width, old, new);
+    }
+    if kind == 2 {
+        return pair_fits(width, old, new);
+    }
+    if kind == 3 {
+        return pair_fits(width, old, new);
+    }
+    false
+}
+
+fn fits_at(j: &[u8], at: usize) -> bool
+    requires { ⌜ at + 28 ≤ length (now j) ⌝ }
+    ensures { λ r. ⌜ r ≡ fitsAt (now (j .entry)) at ⌝ }
+{
+    let kind = bytes::u16_at(j, at + 8);
+    let width = bytes::u16_at(j, at + 10);
+    let old = bytes::u64_at(j, at + 12);
+    let new = bytes::u64_at(j, at + 20);
+    entry_fits(kind, width, old, new)
+}
+
+// Each of the entries is well-formed.
+fn entries_fit(j: &[u8], count: usize) -> bool
+    requires { ⌜ 16 + count * 28 ≤ length (now j) ⌝ }
+    ensures { λ r. ⌜ r ≡ entriesFit (now (j .entry)) 16 count ⌝ }
+{
+    let mut at: usize = 16;
+    let mut left = count;
+    while 0 < left {
+        if fits_at(j, at) {
+            at += 28;
+            left -= 1;
+        } else {
+            return false;
+        }
+    }
+    true
+}
+
+// The journal is well-formed, and for a stream of this length and unique count.
+pub fn journal_fits(j: &[u8], len: usize, unique: u32) -> bool
+    ensures { λ r. ⌜ r ≡ journalFits (now (j .entry)) len unique ⌝ }
+{
+    if j.len() < 16 {
+        return false;
+    }
+    if bytes::u32_at(j, 4) != 16 {
+        return false;
+    }
+    if bytes::u32_as_usize(bytes::u32_at(j, 8)) != len {
+        return false;
+    }
+    if bytes::u32_at(j, 12) != unique {
+        return false;
+    }
+    let count = bytes::u32_as_usize(bytes::u32_at(j, 0));
+    if j.len() < 16 + count * 28 {
+        return false;
+    }
+    entries_fit(j, count)
+}
+
+// There is room for one more entry, and the count can grow.
+pub fn room_for(j: &[u8]) -> bool
+    requires { ⌜ 16 ≤ length (now j) ⌝ }
+    ensures { λ r. ⌜ r ≡ roomFor (now (j .entry)) ⌝ }
+    ensures { λ r. ⌜ RoomIf (now (j .entry)) r ⌝ }
+{
+    let n = bytes::u32_at(j, 0);
+    if n == 0xFFFF_FFFF {
+        return false;
+    }
+    let count = bytes::u32_as_usize(n);
+    if 16 + (count + 1) * 28 <= j.len() {
+        return true;
+    }
+    false
+}
+
+// ---- what is written
+// The number of the value field of this kind at a place: an entry's old bytes.
+pub fn field_number(s: &[u8], kind: Field, at: usize) -> u64
+    requires { ⌜ at + widthOf kind ≤ length (now s) ⌝ }
+    ensures { λ r. ⌜ r ≡ numAt (now (s .entry)) (widthOf kind) at ⌝ }
+{
+    match kind {
+        Field::NoField => 0,
+        Field::Float => bytes::u64_at(s, at),
+        Field::RkWord => bytes::u32_as_u64(bytes::u32_at(s, at)),
+        Field::TextIndex => bytes::u32_as_u64(bytes::u32_at(s, at)),
+        Field::TruthError => bytes::u16_as_u64(bytes::u16_at(s, at)),
+        Field::StoredResult => bytes::u64_at(s, at),
+    }
+}
+
+pub fn put_header(j: &mut [u8], len: usize, unique: u32)
+    requires { ⌜ (16 ≤ length (now j)) × (len ≤ 16777216) ⌝ }
+    ensures { λ _. ⌜ now (j .exit) ≡ header len unique (now (j .entry)) ⌝ }
+{
+    bytes::store(j, 0, 4, 0);
+    bytes::store(j, 4, 4, 16);
+    bytes::store(j, 8, 4, len as u64);
+    bytes::store(j, 12, 4, bytes::u32_as_u64(unique));
+}
+
+fn put_address(j: &mut [u8], at: usize, sheet: u32, row: u32, column: u32)
+    requires { ⌜ at + 28 ≤ length (now j) ⌝ }
+    ensures { λ _. ⌜ now (j .exit) ≡ addressed at sheet row column (now (j .entry)) ⌝ }
+{
+    bytes::store(j, at, 4, bytes::u32_as_u64(sheet));
+    bytes::store(j, at + 4, 2, bytes::u32_as_u64(row));
+    bytes::store(j, at + 6, 2, bytes::u32_as_u64(column));
+}
+
+fn put_values(j: &mut [u8], at: usize, kind: u64, width: usize, old: u64, new: u64)
+    requires { ⌜ (at + 28 ≤ length (now j)) × (width ≤ 8) ⌝ }
+    ensures { λ _. ⌜ now (j .exit) ≡ valued at kind width old new (now (j .entry)) ⌝ }
+{
+    bytes::store(j, at + 8, 2, kind);
+    bytes::store(j, at + 10, 2, width as u64);
+    bytes::store(j, at + 12, 8, old);
+    bytes::store(j, at + 20, 8, new);
+}
+
+fn put_entry(
+    j: &mut [u8],
+    at: usize,
+    sheet: u32,
+    row: u32,
+    column: u32,
+    kind: u64,
+    width: usize,
+    old: u64,
+    new: u64,
+)
+    requires { ⌜ (at + 28 ≤ length (now j)) × (width ≤ 8) ⌝ }
+    ensures { λ _. ⌜ now (j .exit) ≡ entered at (entryBy sheet row column kind width old new) (now (j .entry)) ⌝ }
+{
+    put_address(j, at, sheet, row, column);
+    put_values(j, at, kind, width, old, new);
+}
+
+// One entry more, and its count.
+pub fn append_entry(
+    j: &mut [u8],
+    sheet: u32,
+    row: u32,
+    column: u32,
+    kind: u64,
+    width: usize,
+    old: u64,
+    new: u64,
+)
+    requires { ⌜ Room (now j) × (width ≤ 8) ⌝ }
+    ensures { λ _. ⌜ now (j .exit) ≡ logged (entryBy sheet row column kind width old new) (now (j .entry)) ⌝ }
+{
+    let count = bytes::u32_at(&j[..], 0);
+    let at = 16 + bytes::u32_as_usize(count) * 28;
+    put_entry(j, at, sheet, row, column, kind, width, old, new);
+    bytes::store(j, 0, 4, bytes::u32_as_u64(count) + 1);
+}
+
 // Start a journal for a stream that passes, with `unique` strings.
-// Only this crate and `pairjournal` call it, each after the check.
+// Only this crate and `pair_journal` call it, each after the check.
 pub fn start_in(s: &[u8], j: &mut [u8], unique: u32) -> Answer
     requires { ⌜ length (now s) ≤ 16777216 ⌝ }
     ensures { λ r. ⌜ r ≡ startAnswer (startIn unique (length (now (j .entry)))) ⌝ }
@@ -30,7 +246,7 @@ pub fn start_in(s: &[u8], j: &mut [u8], unique: u32) -> Answer
             offset: 0,
         };
     }
-    entries::put_header(j, s.len(), unique);
+    put_header(j, s.len(), unique);
     Answer::Granted
 }
 
@@ -88,9 +304,9 @@ fn spot(s: &[u8], j: &[u8], unique: u32, sheets: usize, sheet: u32, row: u32, co
     ensures { λ r. ⌜ r ≡ spotIn (now (s .entry)) unique sheets (now (j .entry)) sheet row column ⌝ }
     ensures { λ r. ⌜ SpotWithin (now (s .entry)) (now (j .entry)) r ⌝ }
 {
-    if entries::journal_fits(j, s.len(), unique) {
-        let aim = correction::aim_in(s, unique, sheets, sheet, row, column);
-        let room = entries::room_for(j);
+    if journal_fits(j, s.len(), unique) {
+        let aim = correction::cell_of_address(s, unique, sheets, sheet, row, column);
+        let room = room_for(j);
         return on_room(aim, room);
     }
     Aim::Refused {
@@ -115,9 +331,9 @@ fn number_of(value: NewValue) -> u64
 {
     match value {
         NewValue::Number(x) => number::bits_of(x),
-        NewValue::Text(i) => le::u32_as_u64(i),
-        NewValue::Truth(t) => le::byte_as_u64(t),
-        NewValue::Error(e) => le::byte_as_u64(e),
+        NewValue::Text(i) => bytes::u32_as_u64(i),
+        NewValue::Truth(t) => bytes::byte_as_u64(t),
+        NewValue::Error(e) => bytes::byte_as_u64(e),
     }
 }
 
@@ -138,8 +354,8 @@ fn write_both(
     ensures { λ _. ⌜ now (j .exit) ≡ logged (entryOf (now (s .entry)) sheet row column value kind field) (now (j .entry)) ⌝ }
 {
     let width = value::width_of(kind);
-    let old = entries::field_number(&s[..], kind, field);
-    entries::log(
+    let old = field_number(&s[..], kind, field);
+    append_entry(
         j,
         sheet,
         row,
@@ -149,11 +365,11 @@ fn write_both(
         old,
         number_of(value),
     );
-    le::put(s, field, width, n);
+    bytes::store(s, field, width, n);
 }
 
 // Correct a cell of a stream that passes, with `unique` strings, and write the entry; `sheets` is how many sheets the template has.
-// Only this crate and `pairjournal` call it, each after the check.
+// Only this crate and `pair_journal` call it, each after the check.
 pub fn correct_in(
     s: &mut [u8],
     j: &mut [u8],
@@ -175,7 +391,7 @@ pub fn correct_in(
             kind,
             field,
             unique,
-        } => match change::plan_of(kind, value, unique) {
+        } => match new_value::plan_of(kind, value, unique) {
             Plan::Refused { number, offset } => Answer::Refused { number, offset },
             Plan::Put(n) => {
                 write_both(s, j, kind, field, n, sheet, row, column, value);

@@ -10,15 +10,15 @@ use mir.Val.{Fits}
 use lib.Dec.{ltb, eqb}
 use lib.ListN.{length, take, drop, length-drop}
 use lib.Seq.{take-all}
-use Rattle.walk.specs.Choice.{pick}
-use Rattle.walk.specs.Walk.{more, stop}
-use Rattle.walk.proofs.Choice.{never, pick-eq, pick-ne, refl′}
-use Rattle.walk.proofs.Walk.{Falls, run-more, run-stop}
-use Rattle.le.specs.Bytes.{byteAt, u16At}
-use Rattle.formula.specs.declared.Token.{Token}
-use Rattle.formula.specs.declared.Token.the-variants.{Plain, Memory, Invalid}
-use Rattle.formula.specs.Tokens.{choiceOf, attributeBy, attributeOf, baseOf, tokenOf}
-use Rattle.formula.proofs.Within.{TokenWithin, token-within}
+use Rattle.steps.specs.Choice.{pick}
+use Rattle.steps.specs.Walk.{more, stop}
+use Rattle.steps.proofs.Choice.{never, pick-eq, pick-ne, refl′}
+use Rattle.steps.proofs.Walk.{Falls, run-more, run-stop}
+use Rattle.bytes.specs.Bytes.{byteAt, u16At}
+use Rattle.tokens.specs.declared.Token.{Token}
+use Rattle.tokens.specs.declared.Token.the-variants.{Plain, Memory, Invalid}
+use Rattle.tokens.specs.Tokens.{choiceOf, attributeBy, attributeOf, baseOf, tokenOf}
+use Rattle.tokens.proofs.Within.{TokenWithin, token-within}
 use Rattle.jumps.specs.Jumps.{tableOf, targetsBy, targetsOf, sizeOf, towards, landsFrom, landsOn, allLand, landsOf}
 
 -- ---- the size of a token

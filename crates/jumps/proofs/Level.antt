@@ -9,17 +9,17 @@ use borrow.Author.Tests.{eqb-true, eqb-false, ltb-true, ltb-false}
 use lib.Dec.{ltb, eqb}
 use lib.ListN.{length, drop, length-drop}
 use lib.Seq.{drop-drop}
-use Rattle.walk.specs.Walk.{more, stop, runF, run}
-use Rattle.walk.proofs.Choice.{never}
-use Rattle.walk.proofs.Walk.{run-more, run-stop, run-keeps}
-use Rattle.walk.specs.Choice.{pick}
-use Rattle.formula.specs.declared.Token.{Token}
-use Rattle.formula.specs.declared.Token.the-variants.{Plain, Memory, Invalid}
-use Rattle.formula.specs.declared.Judgement.{Judgement}
-use Rattle.formula.specs.declared.Judgement.the-variants.{Accepted, Refused}
-use Rattle.formula.specs.Tokens.{tokenOf}
-use Rattle.formula.specs.Judge.{ifAccepted, onToken, formulaOf}
-use Rattle.formula.proofs.Within.{TokenWithin, token-within}
+use Rattle.steps.specs.Walk.{more, stop, runF, run}
+use Rattle.steps.proofs.Choice.{never}
+use Rattle.steps.proofs.Walk.{run-more, run-stop, run-keeps}
+use Rattle.steps.specs.Choice.{pick}
+use Rattle.tokens.specs.declared.Token.{Token}
+use Rattle.tokens.specs.declared.Token.the-variants.{Plain, Memory, Invalid}
+use Rattle.tokens.specs.declared.Judgement.{Judgement}
+use Rattle.tokens.specs.declared.Judgement.the-variants.{Accepted, Refused}
+use Rattle.tokens.specs.Tokens.{tokenOf}
+use Rattle.tokens.specs.Judge.{ifAccepted, onToken, formulaOf}
+use Rattle.tokens.proofs.Within.{TokenWithin, token-within}
 use Rattle.jumps.specs.Jumps.{sizeOf, towards, landsFrom, landsOn, AsFromStart, AcceptedEnds}
 use Rattle.jumps.proofs.Laws.{here, to-target, to-end, to-next, falls}
 

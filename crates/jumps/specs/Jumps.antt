@@ -6,14 +6,14 @@ use mathlib.Core.List.{List, [], _∷_}
 use mathlib.Core.Bool.{Bool, true, false}
 use lib.Dec.{eqb}
 use lib.ListN.{length, drop}
-use Rattle.walk.specs.Choice.{pick}
-use Rattle.walk.specs.Walk.{Next, more, stop, run}
-use Rattle.le.specs.Bytes.{byteAt, u16At}
-use Rattle.formula.specs.declared.Token.{Token}
-use Rattle.formula.specs.declared.Token.the-variants.{Plain, Memory, Invalid}
-use Rattle.formula.specs.declared.Judgement.the-variants.{Accepted}
-use Rattle.formula.specs.Tokens.{tokenOf}
-use Rattle.formula.specs.Judge.{formulaOf}
+use Rattle.steps.specs.Choice.{pick}
+use Rattle.steps.specs.Walk.{Next, more, stop, run}
+use Rattle.bytes.specs.Bytes.{byteAt, u16At}
+use Rattle.tokens.specs.declared.Token.{Token}
+use Rattle.tokens.specs.declared.Token.the-variants.{Plain, Memory, Invalid}
+use Rattle.tokens.specs.declared.Judgement.the-variants.{Accepted}
+use Rattle.tokens.specs.Tokens.{tokenOf}
+use Rattle.tokens.specs.Judge.{formulaOf}
 
 -- ---- where they lead
 -- n words from `at` of the token on, each a distance from the table's start, 4 bytes after the token's

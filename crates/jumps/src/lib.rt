@@ -2,10 +2,10 @@
 ghost use mathlib.Core.Path.{_≡_};
 ghost use Prim.Native.Nat.{_+_, _*_, _^_, _≤_, _<_};
 ghost use lib.ListN.{length};
-ghost use Rattle.le.specs.Bytes.{byteAt};
-ghost use Rattle.formula.specs.Tokens.{tokenOf};
+ghost use Rattle.bytes.specs.Bytes.{byteAt};
+ghost use Rattle.tokens.specs.Tokens.{tokenOf};
 ghost use Rattle.jumps.specs.Jumps.{tableOf, targetsBy, sizeOf, landsOn, allLand, landsOf};
-use formula::Token;
+use tokens::Token;
 
 // The bytes of a token; 0 where there is none.
 fn size_of(token: Token) -> usize
@@ -28,7 +28,7 @@ fn lands_on(t: &[u8], offset: usize, depth: u8, target: usize) -> bool
         if at == target {
             return true;
         }
-        let size = size_of(formula::first_token(&t[at..], offset + at, depth));
+        let size = size_of(tokens::first_token(&t[at..], offset + at, depth));
         if size == 0 {
             return false;
         }
@@ -46,7 +46,7 @@ fn table_lands(words: usize, t: &[u8], offset: usize, depth: u8) -> bool
     let mut left = words;
     let mut at: usize = 4;
     while 0 < left {
-        let target = 4 + le::u16_as_usize(le::u16_at(t, at));
+        let target = 4 + bytes::u16_as_usize(bytes::u16_at(t, at));
         if lands_on(t, offset, depth, target) {
             at += 2;
             left -= 1;
@@ -65,7 +65,7 @@ fn attribute_lands(t: &[u8], offset: usize, depth: u8) -> bool
     ensures { λ r. ⌜ r ≡ allLand (now (t .entry)) offset depth (targetsBy (byteAt (now (t .entry)) 1) (now (t .entry))) ⌝ }
 {
     let kind = t[1];
-    let word = le::u16_as_usize(le::u16_at(t, 2));
+    let word = bytes::u16_as_usize(bytes::u16_at(t, 2));
     match kind {
         0x02 => lands_on(t, offset, depth, 4 + word),
         0x08 => lands_on(t, offset, depth, 4 + word + 1),
@@ -75,7 +75,7 @@ fn attribute_lands(t: &[u8], offset: usize, depth: u8) -> bool
 }
 
 // All jumps of the token that t starts with land. t ends where the token's level does.
-pub fn lands(t: &[u8], offset: usize, depth: u8) -> bool
+pub fn jumps_land(t: &[u8], offset: usize, depth: u8) -> bool
     requires { ⌜ 0 < sizeOf (tokenOf (now t) offset depth) ⌝ }
     requires { ⌜ offset + length (now t) < 2 ^ 32 ⌝ }
     ensures { λ r. ⌜ r ≡ landsOf (now (t .entry)) offset depth ⌝ }

@@ -7,19 +7,19 @@ use native.Mathlib.Omega.{arith}
 use lib.ListN.{length, getD}
 use lib.Dec.{eqb}
 use borrow.Author.Tests.{eqb-true, eqb-false}
-use Rattle.le.specs.Bytes.{u16At}
+use Rattle.bytes.specs.Bytes.{u16At}
 use Rattle.segments.specs.declared.Cursor.{Cursor}
 use Rattle.segments.specs.declared.Moved.{Moved}
 use Rattle.segments.specs.Segments.{got}
 use Rattle.segments.specs.Parts.{Inside, ends, moved}
 use Rattle.strings.specs.Table.{nextPlace, strings, first, placesOf}
 use Rattle.strings.proofs.Laws.{first-inside, skipped-not, skipped-inside, placed-not, placed}
-use Rattle.marks.proofs.Laws.{strings-add}
+use Rattle.string_marks.proofs.Laws.{strings-add}
 use Rattle.reading.specs.Reading.{stringsAt}
 use Rattle.differences.specs.Differences.{same}
-use Rattle.equality.specs.Equality.{Tabled, StringAt}
-use Rattle.equality.proofs.Laws.{table-low, table-within, table-string, string-stands}
-use Rattle.abreast.specs.Abreast.{Common}
+use Rattle.cell_equality.specs.Equality.{Tabled, StringAt}
+use Rattle.cell_equality.proofs.Laws.{table-low, table-within, table-string, string-stands}
+use Rattle.records_abreast.specs.Abreast.{Common}
 use Rattle.leading.specs.Leading.{Reached, Shared}
 
 module _ (s : List ℕ) (p n i : ℕ) (t : Tabled s p n) (l : i < n) where

@@ -2,13 +2,13 @@
 use Prim.Native.Nat.{ℕ, _+_}
 use mathlib.Core.Path.{_≡_}
 use mathlib.Core.List.{List}
-use Rattle.le.specs.Bytes.{u16At}
+use Rattle.bytes.specs.Bytes.{u16At}
 use Rattle.segments.specs.declared.Cursor.{Cursor}
 use Rattle.segments.specs.Segments.{got}
 use Rattle.segments.specs.Parts.{ends}
 use Rattle.strings.specs.Table.{strings, first}
 use Rattle.reading.specs.Reading.{stringsAt}
-use Rattle.abreast.specs.Abreast.{Common}
+use Rattle.records_abreast.specs.Abreast.{Common}
 
 -- the cursor after the first i strings of the table whose SST is at p
 unfoldable pub Reached : List ℕ → ℕ → ℕ → Cursor → Type 0

@@ -5,14 +5,14 @@ ghost use mathlib.Core.Bool.{false};
 ghost use Prim.Native.Nat.{_+_, _<_};
 ghost use lib.ListN.{getD};
 ghost use Rattle.reading.specs.Reading.{stringsAt};
-ghost use Rattle.characters.specs.Characters.{ReadAs};
+ghost use Rattle.text_equality.specs.Characters.{ReadAs};
 ghost use Rattle.differences.specs.Differences.{same};
-ghost use Rattle.equality.specs.Equality.{Tabled, StringAt};
-ghost use Rattle.abreast.specs.Abreast.{Common};
+ghost use Rattle.cell_equality.specs.Equality.{Tabled, StringAt};
+ghost use Rattle.records_abreast.specs.Abreast.{Common};
 ghost use Rattle.leading.specs.Leading.{Reached};
-use characters::Chars;
 use segments::Cursor;
 use segments::Moved;
+use text_equality::Chars;
 
 // Where string i stands: the next one from the cursor on.
 fn string_here(s: &[u8], p: usize, n: u32, c: Cursor, i: u32) -> Cursor
@@ -34,7 +34,7 @@ fn chars_here(s: &[u8], p: usize, n: u32, c: Cursor, i: u32) -> Chars
     ensures { λ r. ⌜ ReadAs (now (s .entry)) r (getD (stringsAt (now (s .entry)) p) i []) ⌝ }
 {
     let d = string_here(s, p, n, c, i);
-    equality::chars_of(s, d)
+    cell_equality::chars_of(s, d)
 }
 
 // The cursor after it.
@@ -68,7 +68,7 @@ fn same_string(
 {
     let a = chars_here(s, p, m, c, i);
     let b = chars_here(t, q, n, d, i);
-    characters::same_chars(s, a, t, b)
+    text_equality::same_chars(s, a, t, b)
 }
 
 // Where the first string of a table is looked for.
@@ -76,7 +76,7 @@ fn start(s: &[u8], p: usize, n: u32) -> Cursor
     requires { ⌜ Tabled (now s) p n × (0 < n) ⌝ }
     ensures { λ r. ⌜ Reached (now (s .entry)) p 0 r ⌝ }
 {
-    let e = equality::table_end(s, p);
+    let e = cell_equality::table_end(s, p);
     Cursor {
         seg: p,
         at: p + 12,
@@ -92,7 +92,7 @@ fn idle(s: &[u8], n: u32) -> bool
     if n == 0 {
         return true;
     }
-    let k = le::u32_as_usize(n);
+    let k = bytes::u32_as_usize(n);
     if s.len() < k * 3 + k / 256 {
         return true;
     }

@@ -4,10 +4,10 @@ use mathlib.Core.Path.{_≡_, refl, sym, ap, _∙_, subst}
 use mathlib.Core.List.{List, [], _∷_, map}
 use native.Mathlib.Omega.{arith}
 use lib.ListN.{length}
-use Rattle.walk.proofs.Choice.{never, pick-any, pick-le}
-use Rattle.walk.specs.Walk.{stop}
-use Rattle.walk.proofs.Walk.{run-keeps}
-use Rattle.walk.specs.Items.{Item, gives, skips, ends, nth, Lists, at-end, and-then}
+use Rattle.steps.proofs.Choice.{never, pick-any, pick-le}
+use Rattle.steps.specs.Walk.{stop}
+use Rattle.steps.proofs.Walk.{run-keeps}
+use Rattle.steps.specs.Items.{Item, gives, skips, ends, nth, Lists, at-end, and-then}
 use Rattle.record.specs.declared.Header.{Header}
 use Rattle.record.specs.declared.Header.the-variants.{Record, Cut, End}
 use Rattle.record.specs.Record.{headerAt}
@@ -19,7 +19,7 @@ use Rattle.cell.specs.declared.Found.{Found}
 use Rattle.cell.specs.declared.Found.the-variants.{There, Absent}
 use Rattle.cell.specs.Cells.{shapeOf, fieldOf, lengthAt, countOf, cellFrom, cellOf, foundOf}
 use Rattle.cell.proofs.Sizes.{formula-below}
-use Rattle.sheetlist.specs.Agreement.{Sheet}
+use Rattle.sheet_agreement.specs.Agreement.{Sheet}
 use Rattle.globals.specs.Sheets.{sheetsFrom, sheetsOf}
 use Rattle.reading.specs.declared.Place.{Place}
 use Rattle.reading.specs.Cells.{otherItem, onFound, recordItem, onHeader, cellItem, remaining, listedFrom}

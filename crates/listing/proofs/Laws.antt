@@ -6,13 +6,13 @@ use native.Mathlib.Omega.{arith}
 use lib.ListN.{length, take, drop, length-drop}
 use lib.Seq.{take-all, take-nil}
 use lib.Dec.{eqb}
-use Rattle.walk.specs.Choice.{pick}
-use Rattle.walk.proofs.Choice.{pick-eq, pick-ne, pick-lt, pick-nlt, pick-le, pick-nle, refl′}
-use Rattle.walk.specs.Walk.{Next, more, stop}
-use Rattle.walk.proofs.Walk.{run-more, run-stop, run-keeps}
-use Rattle.walk.specs.Items.{Item, gives, skips, ends, onto, nth}
-use Rattle.walk.proofs.Items.{Nearer, nth-none, nth-here, nth-next}
-use Rattle.le.specs.Bytes.{u16At}
+use Rattle.steps.specs.Choice.{pick}
+use Rattle.steps.proofs.Choice.{pick-eq, pick-ne, pick-lt, pick-nlt, pick-le, pick-nle, refl′}
+use Rattle.steps.specs.Walk.{Next, more, stop}
+use Rattle.steps.proofs.Walk.{run-more, run-stop, run-keeps}
+use Rattle.steps.specs.Items.{Item, gives, skips, ends, onto, nth}
+use Rattle.steps.proofs.Items.{Nearer, nth-none, nth-here, nth-next}
+use Rattle.bytes.specs.Bytes.{u16At}
 use Rattle.record.specs.declared.Header.{Header}
 use Rattle.record.specs.declared.Header.the-variants.{Record, End}
 use Rattle.record.specs.Record.{headerAt}
@@ -21,7 +21,7 @@ use Rattle.cell.specs.declared.Cell.{Cell}
 use Rattle.cell.specs.declared.Found.{Found}
 use Rattle.cell.specs.declared.Found.the-variants.{There, Absent}
 use Rattle.cell.specs.Cells.{shapeOf, fieldOf, countOf, cellOf, foundOf, tokensOf}
-use Rattle.sheetlist.specs.Agreement.{Sheet}
+use Rattle.sheet_agreement.specs.Agreement.{Sheet}
 use Rattle.globals.specs.declared.Bound.{Bound}
 use Rattle.globals.specs.declared.Bound.the-variants as bound
 use Rattle.globals.specs.declared.Globals.{Globals}

@@ -5,11 +5,11 @@ use mathlib.Core.List.{List, []}
 use native.Mathlib.Omega.{arith}
 use lib.ListN.{length}
 use lib.Dec.{eqb}
-use Rattle.walk.specs.Choice.{pick}
-use Rattle.walk.proofs.Choice.{pick-any, pick-eq, pick-ne, refl′}
-use Rattle.walk.specs.Items.{Item, gives, skips, ends, onto}
-use Rattle.walk.proofs.Items.{Nearer}
-use Rattle.le.specs.Bytes.{u16At}
+use Rattle.steps.specs.Choice.{pick}
+use Rattle.steps.proofs.Choice.{pick-any, pick-eq, pick-ne, refl′}
+use Rattle.steps.specs.Items.{Item, gives, skips, ends, onto}
+use Rattle.steps.proofs.Items.{Nearer}
+use Rattle.bytes.specs.Bytes.{u16At}
 use Rattle.record.specs.declared.Header.{Header}
 use Rattle.record.specs.declared.Header.the-variants.{Record, Cut, End}
 use Rattle.record.specs.Record.{headerAt}

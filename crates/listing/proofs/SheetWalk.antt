@@ -4,9 +4,9 @@ use mathlib.Core.Path.{_≡_, refl, sym, ap, _∙_, subst}
 use mathlib.Core.List.{List, [], _∷_}
 use native.Mathlib.Omega.{arith}
 use lib.ListN.{length}
-use Rattle.walk.specs.Walk.{Next, more, stop}
-use Rattle.walk.proofs.Walk.{run-more, run-stop, run-keeps}
-use Rattle.sheetlist.specs.Agreement.{Sheet}
+use Rattle.steps.specs.Walk.{Next, more, stop}
+use Rattle.steps.proofs.Walk.{run-more, run-stop, run-keeps}
+use Rattle.sheet_agreement.specs.Agreement.{Sheet}
 use Rattle.globals.specs.declared.Bound.{Bound}
 use Rattle.globals.specs.declared.Bound.the-variants as bound
 use Rattle.globals.specs.Sheets.{boundAt, sheetsFrom}

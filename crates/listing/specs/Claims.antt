@@ -2,7 +2,7 @@
 use Prim.Native.Nat.{ℕ}
 use mathlib.Core.Path.{_≡_}
 use mathlib.Core.List.{List, []}
-use Rattle.walk.specs.Items.{nth, Lists}
+use Rattle.steps.specs.Items.{nth, Lists}
 use Rattle.cell.specs.declared.Cell.{Cell}
 use Rattle.reading.specs.declared.Place.{Place}
 use Rattle.reading.specs.Cells.{listedFrom}
@@ -14,7 +14,7 @@ use Rattle.listing.specs.Listing.{firstSheet, nextSheetOf, cellsOf, next
 
 -- ---- the cells of a sheet
 -- from v, `next_cell` gives the cell x and the place w; `tokens` gives its tokens and `trailing_bytes` the bytes after them. The units of its text result
--- are those of the cell, which `textresult::text_at` gives from its place (`reread` `TextsRead`)
+-- are those of the cell, which `text_result::text_at` gives from its place (`reads_after` `TextsRead`)
 pub record CellGiven (s : List ℕ) (v : Place) (x : CellReading) (w : Place) : Type 0 where
   pub cell : Cell
   pub next : nextOf s v ≡ listed.Cell cell w

@@ -3,12 +3,12 @@ use Prim.Native.Nat.{ℕ, _+_, _-_}
 use mathlib.Core.List.{List, []}
 use lib.ListN.{length}
 use lib.Dec.{leb}
-use Rattle.walk.specs.Choice.{pick}
-use Rattle.walk.specs.Walk.{Next, more, stop, run}
-use Rattle.walk.specs.Items.{Item, gives, skips, ends, nth}
+use Rattle.steps.specs.Choice.{pick}
+use Rattle.steps.specs.Walk.{Next, more, stop, run}
+use Rattle.steps.specs.Items.{Item, gives, skips, ends, nth}
 use Rattle.cell.specs.declared.Cell.{Cell}
 use Rattle.cell.specs.Cells.{tokensOf}
-use Rattle.sheetlist.specs.Agreement.{Sheet}
+use Rattle.sheet_agreement.specs.Agreement.{Sheet}
 use Rattle.globals.specs.declared.Bound.{Bound}
 use Rattle.globals.specs.declared.Bound.the-variants as bound
 use Rattle.globals.specs.Sheets.{boundAt, sheetsOf}

@@ -2,9 +2,9 @@
 use Prim.Native.Nat.{ℕ, _+_, _≤_, _<_, max}
 use mathlib.Core.Path.{_≡_}
 use mathlib.Core.List.{List}
-use Rattle.walk.specs.Items.{Item, gives, skips, ends}
+use Rattle.steps.specs.Items.{Item, gives, skips, ends}
 use Rattle.cell.specs.declared.Cell.{Cell}
-use Rattle.sheetlist.specs.Agreement.{Sheet}
+use Rattle.sheet_agreement.specs.Agreement.{Sheet}
 use Rattle.reading.specs.declared.Place.{Place}
 use Rattle.reading.specs.Cells.{remaining, listedFrom}
 use Rattle.reading.specs.Reading.{rowsOf}

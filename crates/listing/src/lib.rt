@@ -2,7 +2,7 @@
 ghost use mathlib.Core.Path.{_≡_};
 ghost use Prim.Native.Nat.{_+_, _≤_, max};
 ghost use lib.ListN.{length, take, drop};
-ghost use Rattle.walk.specs.Items.{nth};
+ghost use Rattle.steps.specs.Items.{nth};
 ghost use Rattle.record.specs.Record.{headerAt};
 ghost use Rattle.globals.specs.Sheets.{sheetsOf};
 ghost use Rattle.reading.specs.Cells.{placeAt, otherItem, recordItem, cellItem, listedFrom};
@@ -124,7 +124,7 @@ fn record_item(s: &[u8], v: Place, id: u16, size: usize, end: usize) -> Step
 }
 
 // One step from a place on: a cell, a record that is passed over, or the end.
-pub fn cell_item(s: &[u8], v: Place) -> Step
+pub fn step_at(s: &[u8], v: Place) -> Step
     ensures { λ r. ⌜ itemOf r ≡ cellItem (now (s .entry)) v ⌝ }
 {
     match record::header_at(s, v.at) {
@@ -145,7 +145,7 @@ pub fn next_cell(s: &[u8], from: Place) -> Listed
 {
     let mut v = from;
     loop {
-        match cell_item(s, v) {
+        match step_at(s, v) {
             Step::Gives { cell, next } => {
                 return Listed::Cell { cell, next };
             }
@@ -167,7 +167,7 @@ pub fn find_sheet(s: &[u8], n: u32) -> Sought
     let mut p: usize = 20;
     let mut left = n;
     loop {
-        match globals::bound_at(s, p) {
+        match globals::boundsheet_at(s, p) {
             Bound::Sheet {
                 header,
                 position,
@@ -194,11 +194,11 @@ pub fn find_sheet(s: &[u8], n: u32) -> Sought
     }
 }
 
-pub fn start_of(s: &[u8], position: u32, kind: u32) -> Place
+pub fn first_place(s: &[u8], position: u32, kind: u32) -> Place
     ensures { λ r. ⌜ r ≡ startBy (length (now (s .entry))) position kind ⌝ }
 {
     if kind == 1 {
-        return place_at(le::u32_as_usize(position) + 20, 0);
+        return place_at(bytes::u32_as_usize(position) + 20, 0);
     }
     place_at(s.len(), 0)
 }
@@ -214,7 +214,7 @@ pub fn cells(s: &[u8], n: u32) -> Start
                 header: _,
                 position,
                 kind,
-            } => Start::At(start_of(s, position, kind)),
+            } => Start::At(first_place(s, position, kind)),
             Sought::Absent => Start::Refused {
                 number: 11,
                 offset: 0,
@@ -290,7 +290,7 @@ fn record_rows(s: &[u8], v: Place, id: u16, size: usize, end: usize) -> RowStep
     }
     if v.part < cell::cell_count(s, at, id, size) {
         return RowStep::Rows {
-            rows: rows_to(le::u16_at(s, at + 4)),
+            rows: rows_to(bytes::u16_at(s, at + 4)),
             next: place_at(end, 0),
         };
     }
@@ -369,7 +369,7 @@ pub fn sheet(s: &[u8], n: u32) -> Description
             } => Description::Sheet {
                 type_byte: type_at(s, header),
                 width: width_at(s, header),
-                rows: rows(s, start_of(s, position, kind)),
+                rows: rows(s, first_place(s, position, kind)),
             },
             Sought::Absent => Description::Refused {
                 number: 11,
@@ -392,7 +392,7 @@ pub fn next_sheet(s: &[u8], from: usize) -> NextSheet
 {
     let mut p = from;
     loop {
-        match globals::bound_at(s, p) {
+        match globals::boundsheet_at(s, p) {
             Bound::Sheet {
                 header,
                 position,
@@ -403,7 +403,7 @@ pub fn next_sheet(s: &[u8], from: usize) -> NextSheet
                     header,
                     type_byte: type_at(s, header),
                     width: width_at(s, header),
-                    cells: start_of(s, position, kind),
+                    cells: first_place(s, position, kind),
                     next,
                 };
             }
@@ -424,7 +424,7 @@ pub fn tokens(s: &[u8], cell: Cell) -> &[u8]
 {
     let part = cell.tokens;
     let start = part.start;
-    let size = le::u16_as_usize(part.length);
+    let size = bytes::u16_as_usize(part.length);
     if s.len() < start {
         return &s[0..0];
     }
@@ -454,7 +454,7 @@ pub fn trailing_bytes(s: &[u8], cell: Cell) -> &[u8]
 {
     let part = cell.tokens;
     let start = part.start;
-    let tokens = le::u16_as_usize(part.length);
+    let tokens = bytes::u16_as_usize(part.length);
     if start < 26 {
         return &s[0..0];
     }
@@ -464,7 +464,7 @@ pub fn trailing_bytes(s: &[u8], cell: Cell) -> &[u8]
     if s.len() - start < tokens {
         return &s[0..0];
     }
-    let size = le::u16_as_usize(le::u16_at(s, start - 24));
+    let size = bytes::u16_as_usize(bytes::u16_at(s, start - 24));
     if size < 22 + tokens {
         return &s[0..0];
     }

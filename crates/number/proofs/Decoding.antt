@@ -18,8 +18,8 @@ use borrow.Author.Tests.{lt-ltb, le-ltb, lt-leb, eq-eqb, ne-eqb, eqb-true, eqb-f
 use mir.Syntax.{w32}
 use mir.Val.{SFits, toZ, ofZ}
 use mir.ValLaws.{toZ-pos, toZ-ofZ}
-use Rattle.walk.specs.Choice.{pick}
-use Rattle.walk.proofs.Choice.{pick-any}
+use Rattle.steps.specs.Choice.{pick}
+use Rattle.steps.proofs.Choice.{pick-any}
 use Rattle.number.specs.Float64.{isNanBits, floatSign, floatSize}
 use Rattle.number.specs.Rk.{isWhole, wholeSign, wholeSize, floatBits, rkSign, rkSize, quotientBits, isDivided, rkBits, meansNothing, rkOf}
 use Rattle.number.specs.Rounding.{rounded, signed}

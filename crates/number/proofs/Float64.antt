@@ -7,7 +7,7 @@ use lib.Bits.{bitAnd, and-mask}
 use lib.Ieee.{Float, nan, inf, fin, binary64, ne, ofBits, toBits, isNan, nanBits}
 use lib.Ieee.Bits.{nanBits-is, nanBits-above}
 use lib.Ieee.Compare.{differs-from-itself, nan-differs}
-use Rattle.walk.specs.Choice.{pick}
+use Rattle.steps.specs.Choice.{pick}
 use Rattle.number.specs.Float64.{isNanBits, bitsOf}
 
 pub nan-bits : (b : ℕ) → isNanBits b ≡ nanBits binary64 b

@@ -5,7 +5,7 @@ use Prim.Native.Nat.{ℕ, _^_, _<_}
 use lib.Dec.{T}
 use lib.Ieee.{Float, binary64, fits, ofBits, isNan}
 use lib.Ieee.Bits.{ofBits-toBits, toBits-ofBits, toBits-lt}
-use Rattle.walk.specs.Choice.{pick}
+use Rattle.steps.specs.Choice.{pick}
 use Rattle.number.specs.Float64.{isNanBits, bitsOf}
 use Rattle.number.specs.Rk.{rkBits, meansNothing, rkOf}
 use Rattle.number.specs.Packing.{packOf}

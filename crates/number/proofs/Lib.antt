@@ -5,3 +5,4 @@ pub mod Units
 pub mod Decoding
 pub mod Packing
 pub mod Means
+pub mod Amounts

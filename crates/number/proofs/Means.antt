@@ -11,8 +11,8 @@ use lib.Pow as Pow
 use lib.Ieee.{binary64, fits, ofBits}
 use lib.Ieee.Exact.{HasValue}
 use borrow.Author.Tests.{leb-true, leb-false, ltb-true, eqb-true, eqb-false, lt-leb, le-leb, lt-ltb, eq-eqb, ne-eqb}
-use Rattle.walk.specs.Choice.{pick}
-use Rattle.walk.proofs.Choice.{pick-by}
+use Rattle.steps.specs.Choice.{pick}
+use Rattle.steps.proofs.Choice.{pick-by}
 use Rattle.number.specs.Float64.{floatSign, floatSize}
 use Rattle.number.specs.Rk.{isWhole, wholeSign, wholeSize, floatBits, rkSign, rkSize, quotientBits, rkBits, meansNothing}
 use Rattle.number.specs.Rounding.{rounded, signed}

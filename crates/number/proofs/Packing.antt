@@ -11,7 +11,7 @@ use lib.Pow as Pow
 use mir.Syntax.{w32, w64}
 use mir.Val.{Fits}
 use borrow.Author.Tests.{lt-leb, le-leb, lt-ltb, le-ltb, eq-eqb, ne-eqb}
-use Rattle.walk.specs.Choice.{pick}
+use Rattle.steps.specs.Choice.{pick}
 use Rattle.number.specs.Float64.{inUnits, floatSign, floatSize}
 use Rattle.number.specs.Packing.{inRange, thirtyBits, wholeForm, packOf}
 use Rattle.number.specs.declared.Packed.{Packed}

@@ -13,7 +13,7 @@ use lib.Ieee.Fits.{round-is, round-fits, down-pos, nearest-le, kept-lt}
 use lib.Ieee.Exact.{HasValue, units-val}
 use lib.Ieee.Nearest.{closest, closest-same, div-same, nearest-ge}
 use lib.Ieee.Bits.{ofBits-toBits, toBits-lt}
-use Rattle.walk.specs.Choice.{pick}
+use Rattle.steps.specs.Choice.{pick}
 use Rattle.number.specs.Float64.{isNanBits, inUnits}
 use Rattle.number.specs.Rounding.{halvings, digits, exponent, halfEven, rounded, signed, IsRounded}
 use Rattle.number.proofs.Float64.{nan-float}

@@ -10,7 +10,7 @@ use lib.Ieee.{Float, nan, inf, fin, binary64, down, ofFields, ofBits}
 use lib.Ieee.Fits.{down-pos}
 use lib.Ieee.Exact.{HasValue, odd-sign}
 use borrow.Author.Tests.{le-ltb, ne-eqb, leb-true, leb-false}
-use Rattle.walk.specs.Choice.{pick}
+use Rattle.steps.specs.Choice.{pick}
 use Rattle.number.specs.Float64.{isNanBits, inUnits, floatSign, floatSize}
 use Rattle.number.specs.Rounding.{rounded, signed}
 use Rattle.number.proofs.Rounding.{rounded-units}

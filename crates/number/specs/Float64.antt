@@ -4,7 +4,7 @@ use Prim.Native.Nat.{ℕ, zero, suc, _+_, _*_, _/_, _%_, _^_}
 use mathlib.Core.Bool.{Bool}
 use lib.Dec.{leb, ltb}
 use lib.Ieee.{Float, binary64, toBits, isNan}
-use Rattle.walk.specs.Choice.{pick}
+use Rattle.steps.specs.Choice.{pick}
 
 -- the lower 63 bits are above those of an infinity
 unfoldable pub isNanBits : ℕ → Bool

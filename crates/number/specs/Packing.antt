@@ -3,7 +3,7 @@ use mathlib.Core.Path.{_≡_}
 use Prim.Native.Nat.{ℕ, _+_, _-_, _*_, _/_, _%_, _^_, _<_}
 use mathlib.Core.Bool.{Bool, false, _&&_}
 use lib.Dec.{leb, ltb, eqb}
-use Rattle.walk.specs.Choice.{pick}
+use Rattle.steps.specs.Choice.{pick}
 use Rattle.number.specs.Float64.{floatSign, floatSize}
 use Rattle.number.specs.Rk.{meansNothing, rkBits}
 use Rattle.number.specs.declared.Packed.{Packed}

@@ -3,7 +3,7 @@ use Prim.Native.Nat.{ℕ, _-_, _*_, _/_, _%_, _^_}
 use mathlib.Core.Bool.{Bool, not, _&&_}
 use lib.Dec.{leb, eqb}
 use lib.Ieee.{binary64, ofBits}
-use Rattle.walk.specs.Choice.{pick}
+use Rattle.steps.specs.Choice.{pick}
 use Rattle.number.specs.Float64.{floatSign, floatSize}
 use Rattle.number.specs.Rounding.{rounded, signed}
 use Rattle.number.specs.declared.Rk.{Rk}

@@ -1,4 +1,4 @@
-// Numbers as a workbook holds them: the 64 bits of an f64, and RK words, decoded and packed.
+// Numbers as a workbook holds them: the 64 bits of an f64, and RK words, decoded and packed; whole numbers from 0 up, by the 64 bits of an f64.
 ghost use mathlib.Core.Path.{_≡_};
 ghost use mathlib.Core.Bool.{false};
 ghost use Prim.Native.Nat.{_<_, _/_, _%_, _^_};
@@ -6,6 +6,7 @@ ghost use lib.Ieee.{binary64, ofBits, round};
 ghost use Rattle.number.specs.Float64.{isNanBits, bitsOf};
 ghost use Rattle.number.specs.Rk.{wholeSign, wholeSize, quotientBits, rkBits, meansNothing, rkOf};
 ghost use Rattle.number.specs.Packing.{wholeForm, packOf};
+ghost use Rattle.number.specs.Amount.{amountOf};
 
 // What an RK word means.
 pub enum Rk {
@@ -160,4 +161,42 @@ fn whole_form(b: u64) -> Packed
         return Packed::Word((0x4000_0000 - (size as u32)) * 4 + 2);
     }
     Packed::Unpacked
+}
+
+// A whole number up to a limit, or none.
+pub enum Amount {
+    Is(u32),
+    Unfit,
+}
+
+fn wide(x: u32) -> u64
+    ensures { λ r. ⌜ r ≡ x ⌝ }
+{
+    x as u64
+}
+
+// The whole number from 0 up to the limit that 64 bits mean.
+pub fn amount_of(limit: u32, b: u64) -> Amount
+    ensures { λ r. ⌜ r ≡ amountOf limit b ⌝ }
+{
+    if b == 0 {
+        return Amount::Is(0);
+    }
+    let field = b >> 52;
+    if field < 1023 {
+        return Amount::Unfit;
+    }
+    if 1054 < field {
+        return Amount::Unfit;
+    }
+    let significand = (b & 0xF_FFFF_FFFF_FFFF) + 0x10_0000_0000_0000;
+    let fraction = 1075 - field;
+    let whole = significand >> fraction;
+    if whole << fraction != significand {
+        return Amount::Unfit;
+    }
+    if wide(limit) < whole {
+        return Amount::Unfit;
+    }
+    Amount::Is(whole as u32)
 }

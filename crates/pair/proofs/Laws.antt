@@ -3,9 +3,9 @@ use Prim.Native.Nat.{ℕ, zero, suc, _+_, _≤_}
 use mathlib.Core.Path.{_≡_, refl, sym, ap, _∙_, subst}
 use mathlib.Core.List.{List, [], _∷_}
 use lib.ListN.{length}
-use Rattle.walk.proofs.Choice.{never}
-use Rattle.walk.specs.Items.{nth}
-use Rattle.sheetlist.specs.Agreement.{Sheet}
+use Rattle.steps.proofs.Choice.{never}
+use Rattle.steps.specs.Items.{nth}
+use Rattle.sheet_agreement.specs.Agreement.{Sheet}
 use Rattle.globals.specs.declared.Globals.{Globals}
 use Rattle.globals.specs.Sheets.{sheetsOf}
 use Rattle.workbook.specs.declared.Checked.{Checked}

@@ -3,10 +3,10 @@ use Prim.Native.Nat.{ℕ}
 use mathlib.Core.Path.{_≡_}
 use mathlib.Core.List.{List, []}
 use lib.ListN.{length}
-use Rattle.walk.specs.Items.{nth}
+use Rattle.steps.specs.Items.{nth}
 use Rattle.value.specs.declared.Field.{Field}
-use Rattle.change.specs.declared.NewValue.{NewValue}
-use Rattle.sheetlist.specs.Agreement.{Sheet}
+use Rattle.new_value.specs.declared.NewValue.{NewValue}
+use Rattle.sheet_agreement.specs.Agreement.{Sheet}
 use Rattle.globals.specs.declared.Globals.{Globals}
 use Rattle.globals.specs.Sheets.{sheetsOf}
 use Rattle.workbook.specs.declared.Checked.{Checked}

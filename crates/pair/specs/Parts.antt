@@ -1,7 +1,7 @@
 -- What the contracts of the inner functions speak of.
 use Prim.Native.Nat.{ℕ, _+_, _≤_}
 use mathlib.Core.List.{List}
-use Rattle.sheetlist.specs.Agreement.{Sheet}
+use Rattle.sheet_agreement.specs.Agreement.{Sheet}
 use Rattle.pair.specs.declared.Whose.{Whose}
 use Rattle.pair.specs.declared.Whose.the-variants.{Session, Template}
 use Rattle.pair.specs.declared.Where.{Where}

@@ -3,16 +3,16 @@
 ghost use mathlib.Core.Path.{_≡_};
 ghost use Prim.Native.Nat.{_+_, _≤_};
 ghost use lib.ListN.{length};
-ghost use Rattle.change.specs.Change.{Held};
+ghost use Rattle.new_value.specs.Change.{Held};
 ghost use Rattle.reading.specs.Cells.{listedFrom};
 ghost use Rattle.reading.specs.Reading.{typeAt, widthAt, startBy, rowsOf};
 ghost use Rattle.correction.specs.Correction.{correctionIn};
 ghost use Rattle.pair.specs.Pair.{pairOf, ofStream, pairSheetOf, pairNameOf, pairCellsOf, asked, pairCorrectionOf, answerOf, sessionAfter};
 ghost use Rattle.pair.specs.Parts.{whereOf, WhereWithin};
-use change::Answer;
-use change::NewValue;
 use globals::Globals;
 use listing::Sought;
+use new_value::Answer;
+use new_value::NewValue;
 use reading::Place;
 use workbook::Checked;
 
@@ -117,7 +117,7 @@ pub fn of_stream(whose: Whose) -> Of
 }
 
 // Sheet n, counted from 0.
-pub fn find(template: &[u8], session: &[u8], n: u32) -> Where
+pub fn whose_sheet(template: &[u8], session: &[u8], n: u32) -> Where
     ensures { λ r. ⌜ r ≡ whereOf (now (template .entry)) (now (session .entry)) n ⌝ }
     ensures { λ r. ⌜ WhereWithin (length (now (template .entry))) (length (now (session .entry))) r ⌝ }
 {
@@ -159,7 +159,7 @@ pub fn pair_sheet_name<'a>(template: &'a [u8], session: &'a [u8], n: u32) -> &'a
         PairChecked::Passed {
             template: _,
             session: _,
-        } => match find(template, session, n) {
+        } => match whose_sheet(template, session, n) {
             Where::InSession {
                 header,
                 position: _,
@@ -184,7 +184,7 @@ fn described_by(whose: Whose, s: &[u8], header: usize, position: u32, kind: u32)
         header,
         type_byte: s[header + 9],
         width: segments::width_of(s[header + 11]),
-        rows: listing::rows(s, listing::start_of(s, position, kind)),
+        rows: listing::rows(s, listing::first_place(s, position, kind)),
     }
 }
 
@@ -205,7 +205,7 @@ pub fn pair_sheet(template: &[u8], session: &[u8], n: u32) -> PairSheet
         PairChecked::Passed {
             template: _,
             session: _,
-        } => match find(template, session, n) {
+        } => match whose_sheet(template, session, n) {
             Where::InSession {
                 header,
                 position,
@@ -242,14 +242,14 @@ pub fn pair_cells(template: &[u8], session: &[u8], n: u32) -> PairCells
         PairChecked::Passed {
             template: _,
             session: _,
-        } => match find(template, session, n) {
+        } => match whose_sheet(template, session, n) {
             Where::InSession {
                 header: _,
                 position,
                 kind,
             } => PairCells::From {
                 whose: Whose::Session,
-                place: listing::start_of(session, position, kind),
+                place: listing::first_place(session, position, kind),
             },
             Where::InTemplate {
                 header: _,
@@ -257,7 +257,7 @@ pub fn pair_cells(template: &[u8], session: &[u8], n: u32) -> PairCells
                 kind,
             } => PairCells::From {
                 whose: Whose::Template,
-                place: listing::start_of(template, position, kind),
+                place: listing::first_place(template, position, kind),
             },
             Where::Absent => PairCells::Refused {
                 of: Of::Question,

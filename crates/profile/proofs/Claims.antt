@@ -8,16 +8,16 @@ use native.Mathlib.Omega.{arith}
 use lib.ListN.{length}
 use lib.Dec.{ltb, eqb}
 use borrow.Author.Tests.{eqb-true, eqb-false, ltb-false}
-use Rattle.walk.specs.Choice.{pick}
-use Rattle.walk.proofs.Choice.{never, pick-any, pick-by, pick-eq, pick-ne}
-use Rattle.walk.specs.Items.{nth}
-use Rattle.amount.specs.declared.Amount.{Amount}
-use Rattle.amount.specs.declared.Amount.the-variants.{Is, Unfit}
+use Rattle.steps.specs.Choice.{pick}
+use Rattle.steps.proofs.Choice.{never, pick-any, pick-by, pick-eq, pick-ne}
+use Rattle.steps.specs.Items.{nth}
+use Rattle.number.specs.declared.Amount.{Amount}
+use Rattle.number.specs.declared.Amount.the-variants.{Is, Unfit}
 use Rattle.value.specs.declared.Field.the-variants.{NoField, Float, RkWord, TextIndex, TruthError, StoredResult}
 use Rattle.value.specs.declared.CellValue.{CellValue}
 use Rattle.value.specs.Value.{truthError}
 use Rattle.cell.specs.declared.Cell.{Cell}
-use Rattle.sheetlist.specs.Agreement.{Sheet}
+use Rattle.sheet_agreement.specs.Agreement.{Sheet}
 use Rattle.globals.specs.Sheets.{sheetsOf}
 use Rattle.workbook.specs.declared.Checked.{Checked}
 use Rattle.workbook.specs.declared.Checked.the-variants.{Right, Wrong}

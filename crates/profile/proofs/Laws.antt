@@ -6,17 +6,17 @@ use mathlib.Core.Logic.{inl, inr}
 use native.Mathlib.Omega.{arith}
 use lib.ListN.{length}
 use lib.Ieee as Ieee
-use Rattle.walk.proofs.Choice.{never, pick-eq, pick-ne, pick-lt, pick-nlt}
-use Rattle.walk.specs.Items.{nth}
-use Rattle.walk.proofs.Items.{nth-none, nth-here}
+use Rattle.steps.proofs.Choice.{never, pick-eq, pick-ne, pick-lt, pick-nlt}
+use Rattle.steps.specs.Items.{nth}
+use Rattle.steps.proofs.Items.{nth-none, nth-here}
 use Rattle.number.specs.Float64.{bitsOf}
-use Rattle.amount.specs.declared.Amount.{Amount}
-use Rattle.amount.specs.declared.Amount.the-variants.{Is, Unfit}
-use Rattle.amount.specs.Amount.{amountOf}
+use Rattle.number.specs.declared.Amount.{Amount}
+use Rattle.number.specs.declared.Amount.the-variants.{Is, Unfit}
+use Rattle.number.specs.Amount.{amountOf}
 use Rattle.value.specs.declared.CellValue.{CellValue}
 use Rattle.value.specs.declared.CellValue.the-variants.{Number}
 use Rattle.cell.specs.declared.Cell.{Cell}
-use Rattle.sheetlist.specs.Agreement.{Sheet}
+use Rattle.sheet_agreement.specs.Agreement.{Sheet}
 use Rattle.globals.specs.declared.Globals.{Globals}
 use Rattle.globals.specs.Sheets.{sheetsOf}
 use Rattle.workbook.specs.declared.Checked.{Checked}
@@ -119,7 +119,7 @@ module _ (k i seconds : ℕ) (c : Cell) {w q : ℕ} (e : w ≡ c .row) (f : q �
       go (inr j) = early i (let x : i / 3 ≡ w = ap (λ (n : ℕ). i / n) (sym j) ∙ sym f ∙ sym is in omega arith) r
 
 -- ---- the cells
--- the list by what `next_placed` gave
+-- the list by what `next_with_record` gave
 module _ (s : List ℕ) (v : Place) {r : NextPlaced} (is : listedIn r ≡ nextOf s v) where
   listed-by : {x : NextPlaced} → r ≡ x → listedFrom s v ≡ onListed s (listedIn x)
   listed-by h = listed-next s v ∙ ap (onListed s) (sym is ∙ ap listedIn h)

@@ -2,8 +2,8 @@
 use Prim.Native.Nat.{ℕ, zero, suc, _<_}
 use mathlib.Core.Path.{_≡_, refl, sym, ap, _∙_}
 use mathlib.Core.List.{List, [], _∷_, map}
-use Rattle.walk.specs.Items.{Item, gives, skips, ends, onto, collectF, collect}
-use Rattle.walk.proofs.Items.{Nearer, collect-step}
+use Rattle.steps.specs.Items.{Item, gives, skips, ends, onto, collectF, collect}
+use Rattle.steps.proofs.Items.{Nearer, collect-step}
 use Rattle.cell.specs.declared.Cell.{Cell}
 use Rattle.reading.specs.declared.Place.{Place}
 use Rattle.reading.specs.Cells.{cellItem, remaining, listedFrom}

@@ -4,8 +4,8 @@ use mathlib.Core.Path.{_≡_}
 use mathlib.Core.List.{List, [], map}
 use mathlib.Core.Logic.{_⊎_}
 use lib.ListN.{length}
-use Rattle.walk.specs.Items.{nth}
-use Rattle.amount.specs.declared.Amount.the-variants.{Is}
+use Rattle.steps.specs.Items.{nth}
+use Rattle.number.specs.declared.Amount.the-variants.{Is}
 use Rattle.value.specs.declared.Field.{Field}
 use Rattle.value.specs.declared.Field.the-variants.{Float, RkWord}
 use Rattle.value.specs.Value.{valueOf}

@@ -3,15 +3,15 @@ use Prim.Native.Nat.{ℕ, _<_}
 use mathlib.Core.Path.{_≡_}
 use mathlib.Core.List.{List, [], _∷_}
 use mathlib.Core.Logic.{_⊎_}
-use Rattle.amount.specs.declared.Amount.{Amount}
-use Rattle.amount.specs.declared.Amount.the-variants.{Is, Unfit}
+use Rattle.number.specs.declared.Amount.{Amount}
+use Rattle.number.specs.declared.Amount.the-variants.{Is, Unfit}
 use Rattle.listing.specs.declared.Listed.{Listed}
 use Rattle.listing.specs.declared.Listed.the-variants as listed
 use Rattle.profile.specs.declared.NextPlaced.{NextPlaced}
 use Rattle.profile.specs.declared.NextPlaced.the-variants as nextPlaced
 use Rattle.profile.specs.Placed.{Placed, placedFrom}
 
--- what `next_placed` gives, without the record's offset
+-- what `next_with_record` gives, without the record's offset
 abbrev pub listedIn : NextPlaced → Listed
 listedIn (nextPlaced.Cell at c w) = listed.Cell c w
 listedIn nextPlaced.End = listed.End

@@ -1,7 +1,7 @@
 -- The listed cells of a sheet, each with the offset of its record's header.
 use Prim.Native.Nat.{ℕ}
 use mathlib.Core.List.{List}
-use Rattle.walk.specs.Items.{Item, gives, skips, ends, collect}
+use Rattle.steps.specs.Items.{Item, gives, skips, ends, collect}
 use Rattle.cell.specs.declared.Cell.{Cell}
 use Rattle.reading.specs.declared.Place.{Place}
 use Rattle.reading.specs.Cells.{cellItem, remaining}

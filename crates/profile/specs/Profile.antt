@@ -3,16 +3,16 @@
 use Prim.Native.Nat.{ℕ, _+_, _/_, _%_}
 use mathlib.Core.List.{List, [], _∷_}
 use lib.Dec.{ltb, eqb}
-use Rattle.walk.specs.Choice.{pick}
-use Rattle.walk.specs.Items.{nth}
+use Rattle.steps.specs.Choice.{pick}
+use Rattle.steps.specs.Items.{nth}
 use Rattle.number.specs.Float64.{bitsOf}
-use Rattle.amount.specs.declared.Amount.{Amount}
-use Rattle.amount.specs.declared.Amount.the-variants.{Is, Unfit}
-use Rattle.amount.specs.Amount.{amountOf}
+use Rattle.number.specs.declared.Amount.{Amount}
+use Rattle.number.specs.declared.Amount.the-variants.{Is, Unfit}
+use Rattle.number.specs.Amount.{amountOf}
 use Rattle.value.specs.declared.CellValue.{CellValue}
 use Rattle.value.specs.declared.CellValue.the-variants.{Blank, Number, NotNumber, Text, Truth, Error, Formula}
 use Rattle.cell.specs.declared.Cell.{Cell}
-use Rattle.sheetlist.specs.Agreement.{Sheet}
+use Rattle.sheet_agreement.specs.Agreement.{Sheet}
 use Rattle.globals.specs.Sheets.{sheetsOf}
 use Rattle.workbook.specs.Check.{checkedOf, onChecked}
 use Rattle.reading.specs.declared.Place.{Place}

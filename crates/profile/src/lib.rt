@@ -1,16 +1,16 @@
 // The session profile: whether a stream is of the kind that the sensors write.
 ghost use mathlib.Core.Path.{_≡_};
 ghost use Prim.Native.Nat.{_<_, _/_, _%_};
-ghost use Rattle.walk.specs.Items.{nth};
+ghost use Rattle.steps.specs.Items.{nth};
 ghost use Rattle.reading.specs.Cells.{listedFrom};
 ghost use Rattle.listing.specs.Listing.{nextOf};
 ghost use Rattle.profile.specs.Placed.{placedFrom};
 ghost use Rattle.profile.specs.Profile.{limitOf, amountIn, thirdOf, columnsOf, risen, amountAt, secondsAfter, endedAt, judgedFrom, profileAt, profileOf};
 ghost use Rattle.profile.specs.Parts.{TwoOrThree, Early, listedIn, onPlaced};
-use amount::Amount;
 use cell::Cell;
 use listing::Sought;
 use listing::Step;
+use number::Amount;
 use reading::Place;
 use value::CellValue;
 use workbook::Checked;
@@ -41,13 +41,13 @@ pub enum Session {
 }
 
 // The next cell from a place on, as `listing::next_cell` gives it, and where its record stands.
-pub fn next_placed(s: &[u8], from: Place) -> NextPlaced
+pub fn next_with_record(s: &[u8], from: Place) -> NextPlaced
     ensures { λ r. ⌜ listedIn r ≡ nextOf (now (s .entry)) from ⌝ }
     ensures { λ r. ⌜ placedFrom (now (s .entry)) from ≡ onPlaced (now (s .entry)) r ⌝ }
 {
     let mut v = from;
     loop {
-        match listing::cell_item(s, v) {
+        match listing::step_at(s, v) {
             Step::Gives { cell, next } => {
                 return NextPlaced::Cell {
                     at: v.at,
@@ -82,7 +82,7 @@ pub fn amount_in(column: u32, value: CellValue) -> Amount
 {
     match value {
         CellValue::Blank => Amount::Unfit,
-        CellValue::Number(x) => amount::amount_of(limit_of(column), number::bits_of(x)),
+        CellValue::Number(x) => number::amount_of(limit_of(column), number::bits_of(x)),
         CellValue::NotNumber(_) => Amount::Unfit,
         CellValue::Text(_) => Amount::Unfit,
         CellValue::Truth(_) => Amount::Unfit,
@@ -182,7 +182,7 @@ fn columns_by(s: &[u8], from: Place) -> u32
     ensures { λ r. ⌜ r ≡ nth (listedFrom (now (s .entry)) from) 0 thirdOf 2 ⌝ }
     ensures { λ r. ⌜ TwoOrThree r ⌝ }
 {
-    match next_placed(s, from) {
+    match next_with_record(s, from) {
         NextPlaced::Cell {
             at: _,
             cell,
@@ -200,7 +200,7 @@ fn columns(s: &[u8], from: Place) -> u32
         at: _,
         cell: _,
         next: second,
-    } = next_placed(s, from)
+    } = next_with_record(s, from)
     else {
         return 2;
     };
@@ -208,7 +208,7 @@ fn columns(s: &[u8], from: Place) -> u32
         at: _,
         cell: _,
         next: last,
-    } = next_placed(s, second)
+    } = next_with_record(s, second)
     else {
         return 2;
     };
@@ -233,7 +233,7 @@ fn judge(s: &[u8], columns: u32, from: Place) -> Judged
     let mut i: u32 = 0;
     let mut seconds: u32 = 0;
     loop {
-        match next_placed(s, v) {
+        match next_with_record(s, v) {
             NextPlaced::Cell { at, cell, next } => match amount_at(columns, i, seconds, cell) {
                 Amount::Is(n) => {
                     seconds = seconds_after(column_of(columns, i), seconds, n);
@@ -297,7 +297,7 @@ pub fn profile(s: &[u8]) -> Session
                         position: _,
                         kind: _,
                     } => outside(),
-                    Sought::Absent => profile_at(s, listing::start_of(s, position, kind)),
+                    Sought::Absent => profile_at(s, listing::first_place(s, position, kind)),
                 }
             }
             Sought::Absent => outside(),

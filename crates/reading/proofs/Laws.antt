@@ -7,10 +7,10 @@ use native.Mathlib.Omega.{arith}
 use native.Mathlib.Nat.{add-zero}
 use lib.Dec.{ltb, eqb}
 use borrow.Author.Tests.{ltb-true, ltb-false}
-use Rattle.walk.specs.Choice.{pick}
-use Rattle.walk.proofs.Choice.{pick-any, pick-by, pick-eq, pick-ne, pick-lt, pick-nlt}
-use Rattle.walk.specs.Items.{Item, gives, onto}
-use Rattle.walk.proofs.Items.{Nearer, collect-step}
+use Rattle.steps.specs.Choice.{pick}
+use Rattle.steps.proofs.Choice.{pick-any, pick-by, pick-eq, pick-ne, pick-lt, pick-nlt}
+use Rattle.steps.specs.Items.{Item, gives, onto}
+use Rattle.steps.proofs.Items.{Nearer, collect-step}
 use Rattle.record.specs.declared.Header.{Header}
 use Rattle.record.specs.declared.Header.the-variants.{Record, Cut, End}
 use Rattle.record.specs.Record.{headerAt}

@@ -6,8 +6,8 @@ use mathlib.Core.Bool.{Bool, true, false}
 use native.Mathlib.Omega.{arith}
 use lib.Dec.{eqb}
 use borrow.Author.Tests.{eqb-true, eqb-false}
-use Rattle.walk.proofs.Choice.{never, pick-any, pick-by, pick-eq, pick-ne}
-use Rattle.le.specs.Bytes.{numAt, u64At}
+use Rattle.steps.proofs.Choice.{never, pick-any, pick-by, pick-eq, pick-ne}
+use Rattle.bytes.specs.Bytes.{numAt, u64At}
 use Rattle.number.specs.Float64.{isNanBits}
 use Rattle.number.specs.declared.Rk.{Rk}
 use Rattle.number.specs.declared.Rk.the-variants.{Number as RkNumber, Nothing as RkNothing}
@@ -18,7 +18,7 @@ use Rattle.cell.specs.declared.Shape.{Shape}
 use Rattle.cell.specs.declared.Shape.the-variants.{FORMULA}
 use Rattle.cell.specs.Cells.{shapeOf, fieldOf, partOf, startOf, lengthAt, countOf, fieldAt, cellFrom, cellOf}
 use Rattle.cell.proofs.Sizes.{formula-shape, formula-below}
-use Rattle.textresult.specs.TextResult.{isText, hasText}
+use Rattle.text_result.specs.TextResult.{isText, hasText}
 use Rattle.reading.specs.Reading.{saysText}
 
 -- ---- a value that is no formula's says no text

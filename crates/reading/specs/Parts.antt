@@ -1,5 +1,5 @@
 -- What the contract of the code speaks of.
-use Rattle.walk.specs.Items.{Item, skips, ends}
+use Rattle.steps.specs.Items.{Item, skips, ends}
 use Rattle.cell.specs.declared.Cell.{Cell}
 use Rattle.reading.specs.declared.Place.{Place}
 use Rattle.reading.specs.declared.Outside.{Outside}

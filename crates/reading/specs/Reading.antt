@@ -5,8 +5,8 @@ use mathlib.Core.List.{List, [], _∷_, map}
 use mathlib.Core.Bool.{Bool, false}
 use lib.ListN.{length, take, drop}
 use lib.Dec.{ltb, eqb}
-use Rattle.walk.specs.Choice.{pick}
-use Rattle.le.specs.Bytes.{byteAt, u16At}
+use Rattle.steps.specs.Choice.{pick}
+use Rattle.bytes.specs.Bytes.{byteAt, u16At}
 use Rattle.record.specs.declared.Header.{Header}
 use Rattle.record.specs.declared.Header.the-variants.{Record, Cut, End}
 use Rattle.record.specs.Record.{headerAt}
@@ -14,11 +14,11 @@ use Rattle.segments.specs.Segments.{listOf, widthOf}
 use Rattle.strings.specs.Table.{stringsOf}
 use Rattle.value.specs.declared.CellValue.{CellValue}
 use Rattle.value.specs.declared.CellValue.the-variants.{Blank, Number, NotNumber, Text, Truth, Error, Formula}
-use Rattle.textresult.specs.TextResult.{isText, textOf}
+use Rattle.text_result.specs.TextResult.{isText, textOf}
 use Rattle.cell.specs.declared.Cell.{Cell}
 use Rattle.cell.specs.declared.Tokens.{Tokens}
 use Rattle.cell.specs.Cells.{tokensOf}
-use Rattle.sheetlist.specs.Agreement.{Sheet}
+use Rattle.sheet_agreement.specs.Agreement.{Sheet}
 use Rattle.globals.specs.declared.Ended.{Ended}
 use Rattle.globals.specs.declared.Ended.the-variants as globals
 use Rattle.globals.specs.Globals.{globalsOf}

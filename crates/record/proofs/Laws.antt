@@ -8,9 +8,9 @@ use native.Mathlib.Omega.{arith}
 use lib.ListN.{length}
 use lib.Dec.{ltb, leb}
 use borrow.Author.Tests.{le-ltb, lt-ltb, le-leb, lt-leb, leb-false, ltb-false}
-use Rattle.walk.specs.Choice.{pick}
-use Rattle.le.specs.Bytes.{u16At}
-use Rattle.le.proofs.Laws.{Same, num-same}
+use Rattle.steps.specs.Choice.{pick}
+use Rattle.bytes.specs.Bytes.{u16At}
+use Rattle.bytes.proofs.Laws.{Same, num-same}
 use Rattle.record.specs.declared.Header.{Header}
 use Rattle.record.specs.declared.Header.the-variants.{Record, Cut, End}
 use Rattle.record.specs.Record.{headerAt}

@@ -3,8 +3,8 @@ use Prim.Native.Nat.{ℕ, _+_, _-_}
 use mathlib.Core.List.{List}
 use lib.ListN.{length}
 use lib.Dec.{ltb, leb}
-use Rattle.walk.specs.Choice.{pick}
-use Rattle.le.specs.Bytes.{u16At}
+use Rattle.steps.specs.Choice.{pick}
+use Rattle.bytes.specs.Bytes.{u16At}
 use Rattle.record.specs.declared.Header.{Header}
 use Rattle.record.specs.declared.Header.the-variants.{Record, Cut, End}
 

@@ -20,7 +20,7 @@ pub fn header_at(s: &[u8], at: usize) -> Header
     if n - at < 4 {
         return Header::Cut;
     }
-    let size = le::u16_as_usize(le::u16_at(s, at + 2));
+    let size = bytes::u16_as_usize(bytes::u16_at(s, at + 2));
     if 8224 < size {
         return Header::Cut;
     }
@@ -28,7 +28,7 @@ pub fn header_at(s: &[u8], at: usize) -> Header
         return Header::Cut;
     }
     Header::Record {
-        kind: le::u16_at(s, at),
+        kind: bytes::u16_at(s, at),
         size,
         end: at + 4 + size,
     }

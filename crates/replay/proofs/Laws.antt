@@ -1,221 +1,262 @@
--- The laws of one entry of a replay, with what a call gave as the proofs have it. Assumes nothing.
-use Prim.Native.Nat.{ℕ, _+_, _≤_, _<_}
-use mathlib.Core.Path.{_≡_, refl, sym, ap, ap₂, _∙_, subst}
+-- The laws of a replay in batches, with what a call gave as the proofs have it. Assumes nothing.
+use Prim.Native.Nat.{ℕ, zero, suc, _+_, _-_, _*_, _≤_, _<_}
+use mathlib.Core.Path.{_≡_, refl, sym, ap, _∙_, subst}
 use mathlib.Core.List.{List}
 use mathlib.Core.Bool.{Bool, true, false}
-use native.Mathlib.Nat.{mod-eq-of-lt}
-use borrow.Author.Tests.{eq-eqb, ne-eqb, lt-ltb, le-ltb}
-use Rattle.walk.specs.Choice.{pick}
-use Rattle.walk.proofs.Choice.{pick-any, pick-true, pick-false, pick-eq, pick-ne}
-use Rattle.le.specs.Bytes.{numAt, u16At, u32At, u64At}
-use Rattle.boolerr.specs.Boolerr.{isTruth, isError}
-use Rattle.number.specs.Rk.{meansNothing}
+use native.Mathlib.Omega.{arith}
+use lib.ListN.{length}
+use lib.Dec.{ltb, eqb}
+use lib.Seq.{length-sets}
+use Rattle.steps.specs.Choice.{pick}
+use Rattle.steps.proofs.Choice.{never, pick-by}
+use Rattle.bytes.specs.Bytes.{u32At, bytesOf}
 use Rattle.value.specs.declared.Field.{Field}
-use Rattle.value.specs.declared.Field.the-variants.{NoField, Float, RkWord, TextIndex, TruthError, StoredResult}
-use Rattle.value.specs.Value.{widthOf, valueFits}
-use Rattle.change.specs.declared.Plan.{Plan}
-use Rattle.change.specs.declared.Plan.the-variants as plan
-use Rattle.change.specs.Change.{numberPlan, textPlan, pairPlan}
-use Rattle.correction.specs.declared.Aim.{Aim}
+use Rattle.value.specs.Value.{widthOf}
+use Rattle.globals.specs.declared.Globals.{Globals}
+use Rattle.workbook.specs.declared.Checked.{Checked}
+use Rattle.workbook.specs.declared.Checked.the-variants.{Right}
+use Rattle.workbook.specs.Check.{checkedOf}
+use Rattle.correction.specs.declared.Target.{Target}
+use Rattle.correction.specs.declared.Target.the-variants as target
 use Rattle.correction.specs.declared.Aim.the-variants as aim
-use Rattle.correction.specs.Parts.{aimIn, AimWithin}
-use Rattle.correction.specs.Correction.{Correction, refuses, writes}
-use Rattle.entries.specs.Entries.{Entry, entryIn}
-use Rattle.replay.specs.declared.Step.{Step}
-use Rattle.replay.specs.declared.Step.the-variants as step
-use Rattle.replay.specs.Steps.{firstBytes, entryPlan, holds, passesIn, onMake, onUndo, makeAt, undoAt, makeOf, undoOf}
-use Rattle.replay.specs.Parts.{entryAimed, entryPlanned, stepIs, StepWithin}
+use Rattle.correction.specs.Correction.{Correction, refuses, writes, streamAfter}
+use Rattle.correction.specs.Parts.{aimIn, AimWithin, TargetWithin}
+use Rattle.passes_after.specs.Stored.{storedIn, Stored}
+use Rattle.journal.specs.Entries.{countIn, entryAt, Entry, entryIn, fitsAt, entriesFit, journalFits}
+use Rattle.replay_entry.specs.Steps.{makeOf, undoOf}
+use Rattle.replay_entry.specs.Parts.{entryAimed}
+use Rattle.replay.specs.declared.Done.{Done}
+use Rattle.replay.specs.declared.Done.the-variants as done
+use Rattle.replay.specs.declared.Run.the-variants as run
+use Rattle.replay_entry.specs.Replay.{forwards, backwards, streamRan}
+use Rattle.replay.proofs.Running.{Going, going-stop, going-left, going-again, going-all, going-final, Backing, backing-stop, backing-left, backing-again, backing-all, backing-final}
+use Rattle.journal_claims.specs.Replayed.{Bytes, Small, Well}
+use Rattle.journal_claims.proofs.Aims.{aim-stays, check-stays}
+use Rattle.journal_claims.proofs.Made.{entries-small, entries-store}
+use Rattle.address_lookup.specs.Table.{keyAt, sheetIn, rowIn, columnIn, slot, Room, Knows, AimsAt}
+use Rattle.address_lookup.proofs.Laws.{knows-none}
+use Rattle.replay.specs.Parts.{Passes, Formed, doneOf, runOf}
 
--- ---- the plan
-module _ (f : Field) (kind new unique : ℕ) where
-  pub plan-number : {r : Plan} → kind ≡ 0 → r ≡ numberPlan f new → r ≡ entryPlan f kind new unique
-  unfolding entryPlan
-  plan-number h e = pick-eq _ _ _ kind 0 h e
+-- ---- the cell of an entry
+module _ (s : List ℕ) (u t : ℕ) (x : Entry) {r : Target} (is : AimsAt s u t x r) (f : Field) (p : ℕ) (h : r ≡ target.One f p) where
+  aims-both : (aimIn s u t (x .sheet) (x .row) (x .column) ≡ aim.At f p u) × (p + widthOf f ≤ length s)
+  aims-both = subst (AimsAt s u t x) h is
 
-  module _ (a : kind ≡ 0 → ⊥) where
-    pub plan-text : {r : Plan} {w : ℕ} → kind ≡ 1 → w ≡ firstBytes 4 new → r ≡ textPlan f w unique → r ≡ entryPlan f kind new unique
-    unfolding entryPlan
-    plan-text h e i = pick-ne _ _ _ kind 0 a (pick-eq _ _ _ kind 1 h (i ∙ ap (λ (m : ℕ). textPlan f m unique) e))
+  pub aims-one : aim.At f p u ≡ entryAimed u t x s
+  aims-one = sym (aims-both .0)
 
-    module _ (b : kind ≡ 1 → ⊥) {c d : ℕ} (c-is : c ≡ firstBytes 1 new) (d-is : d ≡ c) where
-      pub plan-truth : {r : Plan} {t : Bool} → kind ≡ 2 → t ≡ isTruth c → r ≡ pairPlan f t d → r ≡ entryPlan f kind new unique
-      unfolding entryPlan
-      plan-truth h e i =
-          pick-ne _ _ _ kind 0 a (pick-ne _ _ _ kind 1 b (pick-eq _ _ _ kind 2 h (i ∙ ap₂ (λ (x : Bool) (y : ℕ). pairPlan f x y) (e ∙ ap isTruth c-is) (d-is ∙ c-is))))
+  pub aims-within : AimWithin (length s) (aim.At f p u)
+  aims-within = aims-both .1
 
-      pub plan-error : {r : Plan} {t : Bool} → (kind ≡ 2 → ⊥) → t ≡ isError c → r ≡ pairPlan f t (d + 256) → r ≡ entryPlan f kind new unique
-      unfolding entryPlan
-      plan-error h e i =
-          pick-ne _ _ _ kind 0 a (pick-ne _ _ _ kind 1 b (pick-ne _ _ _ kind 2 h (i ∙ ap₂ (λ (x : Bool) (y : ℕ). pairPlan f x (y + 256)) (e ∙ ap isError c-is) (d-is ∙ c-is))))
+pub ruleset aims-laws = (aims-one, aims-within)
 
-pub ruleset plan-laws = (plan-number, plan-text, plan-truth, plan-error)
+-- ---- what is stored keeps what was looked up
+within-as : (m n : ℕ) (t : Target) → m ≡ n → TargetWithin m t → TargetWithin n t
+within-as m n t e w = subst (λ (l : ℕ). TargetWithin l t) e w
 
--- ---- what a field holds
-module _ (s : List ℕ) (f : Field) (p width n : ℕ) {w a : ℕ} (a-is : a ≡ width) (w-is : w ≡ widthOf f) where
-  pub holds-width : (a ≡ w → ⊥) → false ≡ holds s f p width n
-  unfolding holds
-  holds-width h = pick-ne _ _ _ width (widthOf f) (λ e. h (a-is ∙ e ∙ sym w-is)) refl
+module _ (unique : ℕ) (keys : List ℕ) (n : ℕ) (marks fields : List ℕ) where
+  abbrev Kept : List ℕ → Type 0
+  Kept s = Passes s unique × Knows s keys n marks fields
 
-  module _ (same : a ≡ w) {m : ℕ} (m-is : m ≡ numAt s (widthOf f) p) where
-    pub holds-there : m ≡ n → true ≡ holds s f p width n
-    unfolding holds
-    holds-there h = pick-eq _ _ _ width (widthOf f) (sym a-is ∙ same ∙ w-is) (sym (eq-eqb (numAt s (widthOf f) p) n (sym m-is ∙ h)))
+  kept-stored : (s : List ℕ) (g : Globals) (u m : ℕ) (f : Field) (p b : ℕ) → checkedOf s u ≡ Right g → g .unique ≡ unique → Stored s u m f p b → Knows s keys n marks fields → Kept (storedIn s f p b)
+  kept-stored s g u m f p b ok e k w = (
+    record { lent = u; globals = g; checked = check-stays k ∙ ok; strings = e },
+    record {
+      aims = λ i l f′ p′ h q t. aim-stays k q t (sheetIn (keyAt keys i)) (rowIn (keyAt keys i)) (columnIn (keyAt keys i)) ∙ w .aims i l f′ p′ h q t;
+      within = λ i l. within-as (length s) (length (storedIn s f p b)) (slot marks fields i) (sym (length-sets s p (bytesOf (widthOf f) b))) (w .within i l);
+    },
+  )
 
-    pub holds-other : (m ≡ n → ⊥) → false ≡ holds s f p width n
-    unfolding holds
-    holds-other h = pick-eq _ _ _ width (widthOf f) (sym a-is ∙ same ∙ w-is) (sym (ne-eqb (numAt s (widthOf f) p) n (λ e. h (m-is ∙ e))))
+  module _ (s : List ℕ) (t : ℕ) (x : Entry) (passes : Passes s unique) (w : Knows s keys n marks fields) where
+    by-correction : (c : Correction) → ((f : Field) (p b : ℕ) → c ≡ writes f p b → Stored s (passes .lent) (x .sheet) f p b) → Kept (streamAfter s c)
+    by-correction (refuses m o) k = (passes, w)
+    by-correction (writes f p b) k = kept-stored s (passes .globals) (passes .lent) (x .sheet) f p b (passes .checked) (passes .strings) (k f p b refl) w
 
-pub ruleset holds-laws = (holds-width, holds-there, holds-other)
+    module _ (j : List ℕ) (count i at : ℕ) (formed : Formed j count) (l : i < count) (a : at ≡ 16 + i * 28) (x-is : entryIn j at ≡ x) where
+      well : Well x
+      well = subst Well ((λ z. entryIn j (sym a z)) ∙ x-is) (formed .each i l)
 
--- ---- what the check passes in a field
-module _ (k : Field) (unique n : ℕ) where
-  pub pass-none : k ≡ NoField → true ≡ passesIn k unique n
-  unfolding passesIn pick
-  pass-none h = rw h refl
+      make-kept : Kept (streamAfter s (makeOf unique t x s))
+      make-kept = by-correction (makeOf unique t x s) (λ f p b h.
+          entries-store s (passes .lent) t (passes .globals) (passes .checked) x (subst Small x-is (entries-small j at (formed .bytes))) well f p b .0 (ap (λ (q : ℕ). makeOf q t x s) (passes .strings) ∙ h))
 
-  pub pass-float : k ≡ Float → true ≡ passesIn k unique n
-  unfolding passesIn pick
-  pass-float h = rw h refl
+      undo-kept : Kept (streamAfter s (undoOf unique t x s))
+      undo-kept = by-correction (undoOf unique t x s) (λ f p b h.
+          entries-store s (passes .lent) t (passes .globals) (passes .checked) x (subst Small x-is (entries-small j at (formed .bytes))) well f p b .1 (ap (λ (q : ℕ). undoOf q t x s) (passes .strings) ∙ h))
 
-  module _ {w : ℕ} (w-is : w ≡ firstBytes 4 n) where
-    pub pass-nothing : {r : Bool} → k ≡ RkWord → r ≡ meansNothing w → r ≡ true → false ≡ passesIn k unique n
-    unfolding passesIn pick
-    pass-nothing h e i = rw (h, ← w-is, ← e, i) refl
+-- ---- a run: G is how far it has come
+pub record Running (G : Type 0) (unique : ℕ) (keys₀ marks₀ fields₀ s keys marks fields : List ℕ) (n : ℕ) : Type 0 where
+  pub comes : G
+  pub passes : Passes s unique
+  pub knows : Knows s keys n marks fields
+  pub few : n ≤ 3072
+  pub room : Room 3072 keys marks fields
+  pub long-keys : length keys ≡ length keys₀
+  pub long-marks : length marks ≡ length marks₀
+  pub long-fields : length fields ≡ length fields₀
 
-    pub pass-word : {r : Bool} → k ≡ RkWord → r ≡ meansNothing w → r ≡ false → true ≡ passesIn k unique n
-    unfolding passesIn pick
-    pass-word h e i = rw (h, ← w-is, ← e, i) refl
+running-on : {G : Type 0} (unique : ℕ) (keys₀ marks₀ fields₀ s keys marks fields : List ℕ) (n : ℕ) (H : Type 0) → Running G unique keys₀ marks₀ fields₀ s keys marks fields n
+    → (s′ keys′ marks′ fields′ : List ℕ) (n′ : ℕ) → H → Passes s′ unique → Knows s′ keys′ n′ marks′ fields′ → n′ ≤ 3072
+    → length keys′ ≡ length keys → length marks′ ≡ length marks → length fields′ ≡ length fields → Running H unique keys₀ marks₀ fields₀ s′ keys′ marks′ fields′ n′
+running-on unique keys₀ marks₀ fields₀ s keys marks fields n H inv s′ keys′ marks′ fields′ n′ comes passes knows few a b c =
+    let r = inv .room in
+    let d = r .of-keys in
+    let e = r .of-marks in
+    let f = r .of-fields in
+    record { comes = comes; passes = passes; knows = knows; few = few; room = record { of-keys = omega arith; of-marks = omega arith; of-fields = omega arith }; long-keys = a ∙ inv .long-keys; long-marks = b ∙ inv .long-marks; long-fields = c ∙ inv .long-fields }
 
-    pub pass-index : k ≡ TextIndex → w < unique → true ≡ passesIn k unique n
-    unfolding passesIn pick
-    pass-index h l = rw (h, ← w-is, lt-ltb w unique l) refl
+pub running-start : (G : Type 0) (unique : ℕ) (s keys marks fields : List ℕ) → G → Passes s unique → Room 3072 keys marks fields → Running G unique keys marks fields s keys marks fields 0
+running-start G unique s keys marks fields comes passes room =
+    record { comes = comes; passes = passes; knows = knows-none s keys marks fields; few = omega arith; room = room; long-keys = refl; long-marks = refl; long-fields = refl }
 
-    pub pass-over : k ≡ TextIndex → unique ≤ w → false ≡ passesIn k unique n
-    unfolding passesIn pick
-    pass-over h l = rw (h, ← w-is, le-ltb w unique l) refl
+module _ (G : Type 0) (unique : ℕ) (keys₀ marks₀ fields₀ s keys marks fields : List ℕ) (n : ℕ) (inv : Running G unique keys₀ marks₀ fields₀ s keys marks fields n) where
+  pub running-knows : Knows s keys n marks fields
+  running-knows = inv .knows
 
-  first-true : (b : Bool) → pick b true false ≡ b
-  unfolding pick
-  first-true true = refl
-  first-true false = refl
+  pub running-few : n ≤ 3072
+  running-few = inv .few
 
-  pub pass-pair : {w : ℕ} {r : Bool} → w ≡ firstBytes 2 n → k ≡ TruthError → r ≡ valueFits TruthError w → r ≡ passesIn k unique n
-  unfolding passesIn
-  pass-pair w-is h e = rw h (e ∙ ap (valueFits TruthError) w-is ∙ sym (first-true _))
+  pub running-room : Room 3072 keys marks fields
+  running-room = inv .room
 
-  pub pass-result : {r : Bool} → k ≡ StoredResult → n < 18446744073709551616 → r ≡ valueFits StoredResult n → r ≡ passesIn k unique n
-  unfolding passesIn
-  pass-result h l e = rw h (e ∙ ap (valueFits StoredResult) (sym (mod-eq-of-lt l)) ∙ sym (first-true _))
+  pub running-keys : length keys ≡ length keys₀
+  running-keys = inv .long-keys
 
-pub ruleset pass-laws = (pass-none, pass-float, pass-nothing, pass-word, pass-index, pass-over, pass-pair, pass-result)
+  pub running-marks : length marks ≡ length marks₀
+  running-marks = inv .long-marks
 
--- ---- forwards, from the plan on
-module _ (f : Field) (p : ℕ) (there : Bool) {y : Plan} where
-  module _ (n o : ℕ) (h : y ≡ plan.Refused n o) where
-    pub make-kind : n ≡ 17 → refuses 17 0 ≡ onMake f p there y
-    make-kind i = rw h (pick-eq _ _ _ n 17 i refl)
+  pub running-fields : length fields ≡ length fields₀
+  running-fields = inv .long-fields
 
-    module _ (i : n ≡ 17 → ⊥) where
-      pub make-unfit : there ≡ true → refuses n 0 ≡ onMake f p there y
-      make-unfit k = rw h (pick-ne _ _ _ n 17 i (pick-true _ _ _ there k refl))
+  module _ (keys′ marks′ fields′ : List ℕ) (a : length keys′ ≡ length keys) (b : length marks′ ≡ length marks) (c : length fields′ ≡ length fields) where
+    pub filled-room : (n′ : ℕ) → n′ ≤ 3072 → Room n′ keys′ marks′ fields′
+    filled-room n′ l =
+        let r = inv .room in
+        let d = r .of-keys in
+        let e = r .of-marks in
+        let f = r .of-fields in
+        record { of-keys = omega arith; of-marks = omega arith; of-fields = omega arith }
 
-      pub make-other : there ≡ false → refuses 19 0 ≡ onMake f p there y
-      make-other k = rw h (pick-ne _ _ _ n 17 i (pick-false _ _ _ there k refl))
+pub ruleset running-laws = (running-knows, running-few, running-room, running-keys, running-marks, running-fields, filled-room)
 
-  module _ (b : ℕ) (h : y ≡ plan.Put b) where
-    pub make-put : there ≡ true → writes f p b ≡ onMake f p there y
-    make-put k = rw h (pick-true _ _ _ there k refl)
+-- ---- forwards
+module _ (unique t : ℕ) (j : List ℕ) (count : ℕ) (s₀ s : List ℕ) (i at : ℕ) (keys₀ marks₀ fields₀ keys marks fields : List ℕ) (n : ℕ)
+    (inv : Running (Going unique t j count s₀ s i at) unique keys₀ marks₀ fields₀ s keys marks fields n) where
+  pub fore-length : length s ≡ length s₀
+  fore-length = inv .comes .2
 
-    pub make-else : there ≡ false → refuses 19 0 ≡ onMake f p there y
-    make-else k = rw h (pick-false _ _ _ there k refl)
+  pub fore-low : length s₀ ≤ 16777216 → length s ≤ 16777216
+  fore-low l = let e = inv .comes .2 in omega arith
 
-pub ruleset make-laws = (make-kind, make-unfit, make-other, make-put, make-else)
+  module _ (more : i < count) where
+    pub fore-room : 16 + count * 28 ≤ length j → at + 28 ≤ length j
+    fore-room l = let e = inv .comes .1 in omega arith
 
--- ---- backwards, from the plan on
-module _ (f : Field) (p : ℕ) (there : ℕ → Bool) (right : Bool) (old : ℕ) {y : Plan} where
-  module _ (n o : ℕ) (h : y ≡ plan.Refused n o) where
-    pub undo-kind : n ≡ 17 → refuses 17 0 ≡ onUndo f p there right old y
-    undo-kind i = rw h (pick-eq _ _ _ n 17 i refl)
+    pub fore-batch : 16 + count * 28 ≤ length j → (m : ℕ) → m ≤ count - i → at + m * 28 ≤ length j
+    fore-batch l m h = let e = inv .comes .1 in omega arith
 
-    pub undo-unfit : (n ≡ 17 → ⊥) → refuses 19 0 ≡ onUndo f p there right old y
-    undo-unfit i = rw h (pick-ne _ _ _ n 17 i refl)
+    module _ {d : Done} (d-is : d ≡ doneOf (makeOf unique t (entryIn j at) s)) {x : List ℕ} (x-is : x ≡ streamAfter s (makeOf unique t (entryIn j at) s)) where
+      pub fore-stop : (m : ℕ) → d ≡ done.Stopped m → run.Stopped m i ≡ runOf (forwards unique t j 0 count s₀)
+      fore-stop m h = going-stop unique t j count s₀ s i at (inv .comes) more d-is x-is m h
 
-  module _ (b : ℕ) (h : y ≡ plan.Put b) {r : Bool} (is : r ≡ there b) where
-    pub undo-other : r ≡ false → refuses 19 0 ≡ onUndo f p there right old y
-    undo-other k = rw h (pick-false _ _ _ (there b) (sym is ∙ k) refl)
+      pub fore-left : (m : ℕ) → d ≡ done.Stopped m → x ≡ streamRan (forwards unique t j 0 count s₀)
+      fore-left m h = going-left unique t j count s₀ s i at (inv .comes) more d-is x-is m h
 
-    module _ (k : r ≡ true) {q : Bool} (q-is : q ≡ right) where
-      pub undo-put : q ≡ true → writes f p old ≡ onUndo f p there right old y
-      undo-put l = rw h (pick-true _ _ _ (there b) (sym is ∙ k) (pick-true _ _ _ right (sym q-is ∙ l) refl))
+      pub fore-again : d ≡ done.Made → Formed j count → (keys′ marks′ fields′ : List ℕ) (n′ : ℕ) → length keys′ ≡ length keys → length marks′ ≡ length marks → length fields′ ≡ length fields
+          → n′ ≤ 3072 → Knows s keys′ n′ marks′ fields′ → Running (Going unique t j count s₀ x (i + 1) (at + 28)) unique keys₀ marks₀ fields₀ x keys′ marks′ fields′ n′
+      fore-again h formed keys′ marks′ fields′ n′ a b c few knows =
+          let k = make-kept unique keys′ n′ marks′ fields′ s t (entryIn j at) (inv .passes) knows j count i at formed more (inv .comes .1) refl in
+          running-on unique keys₀ marks₀ fields₀ s keys marks fields n _ inv x keys′ marks′ fields′ n′ (going-again unique t j count s₀ s i at (inv .comes) more d-is x-is h)
+          (subst (λ (y : List ℕ). Passes y unique) (sym x-is) (k .0)) (subst (λ (y : List ℕ). Knows y keys′ n′ marks′ fields′) (sym x-is) (k .1)) few a b c
 
-      pub undo-bad : q ≡ false → refuses 18 0 ≡ onUndo f p there right old y
-      undo-bad l = rw h (pick-true _ _ _ (there b) (sym is ∙ k) (pick-false _ _ _ right (sym q-is ∙ l) refl))
+  module _ (end : count ≤ i) where
+    pub fore-all : run.All ≡ runOf (forwards unique t j 0 count s₀)
+    fore-all = going-all unique t j count s₀ s i at (inv .comes) end
 
-pub ruleset undo-laws = (undo-kind, undo-unfit, undo-other, undo-put, undo-bad)
+    pub fore-final : s ≡ streamRan (forwards unique t j 0 count s₀)
+    fore-final = going-final unique t j count s₀ s i at (inv .comes) end
 
--- ---- the entry at a place
-module _ (s j : List ℕ) (e unique t : ℕ) where
-  pub aim-read : {n a b row column : ℕ} {r : Aim} → n ≡ u32At j e → a ≡ u16At j (e + 4) → row ≡ a → b ≡ u16At j (e + 6) → column ≡ b → r ≡ aimIn s unique t n row column → r ≡ entryAimed unique t (entryIn j e) s
-  unfolding entryIn
-  aim-read h i k l m q = q ∙ (λ z. aimIn s unique t (h z) ((k ∙ i) z) ((m ∙ l) z))
+pub ruleset fore-laws = (fore-length, fore-low, fore-room, fore-batch, fore-stop, fore-left, fore-all, fore-final, running-laws)
 
-pub plan-read : (j : List ℕ) (e : ℕ) (f : Field) (unique : ℕ) {k n : ℕ} {r : Plan} → k ≡ u16At j (e + 8) → n ≡ u64At j (e + 20) → r ≡ entryPlan f k n unique → r ≡ entryPlanned f (entryIn j e) unique
-unfolding entryIn
-plan-read j e f unique h i q = q ∙ ap₂ (λ (a b : ℕ). entryPlan f a b unique) h i
+-- ---- backwards
+module _ (unique t : ℕ) (j : List ℕ) (count : ℕ) (s₀ s : List ℕ) (i at : ℕ) (keys₀ marks₀ fields₀ keys marks fields : List ℕ) (n : ℕ)
+    (inv : Running (Backing unique t j count s₀ s i at) unique keys₀ marks₀ fields₀ s keys marks fields n) where
+  pub back-length : length s ≡ length s₀
+  back-length = inv .comes .2
 
-module _ (s j : List ℕ) (e unique t : ℕ) {a : Aim} (is : a ≡ entryAimed unique t (entryIn j e) s) where
-  abbrev x : Entry
-  x = entryIn j e
+  pub back-low : length s₀ ≤ 16777216 → length s ≤ 16777216
+  back-low l = let e = inv .comes .2 in omega arith
 
-  by-make : (y : Aim) → a ≡ y → makeAt s x y ≡ makeOf unique t x s
-  by-make y h = ap (makeAt s x) (sym h ∙ is)
+  module _ (more : 0 < i) where
+    pub back-sub : 28 ≤ at
+    back-sub = let e = inv .comes .1 in omega arith
 
-  by-undo : (y : Aim) → a ≡ y → undoAt s x y ≡ undoOf unique t x s
-  by-undo y h = ap (undoAt s x) (sym h ∙ is)
+    pub back-room : 16 + count * 28 ≤ length j → at - 28 + 28 ≤ length j
+    back-room l = let e = inv .comes .1 in let m = inv .comes .0 in omega arith
 
-  module _ (n o : ℕ) (h : a ≡ aim.Refused n o) where
-    pub make-refused : refuses n 0 ≡ makeOf unique t x s
-    make-refused = by-make (aim.Refused n o) h
+    pub back-many : (m : ℕ) → m ≤ i → m * 28 ≤ at
+    back-many m h = let e = inv .comes .1 in omega arith
 
-    pub undo-refused : refuses n 0 ≡ undoOf unique t x s
-    undo-refused = by-undo (aim.Refused n o) h
+    pub back-batch : 16 + count * 28 ≤ length j → (m : ℕ) → m ≤ i → at - m * 28 + m * 28 ≤ length j
+    back-batch l m h = let e = inv .comes .1 in let k = inv .comes .0 in omega arith
 
-  module _ (f : Field) (p u : ℕ) (h : a ≡ aim.At f p u) {y : Plan} (y-is : y ≡ entryPlanned f x u) {w o : ℕ} (w-is : w ≡ u16At j (e + 10)) (o-is : o ≡ u64At j (e + 12)) where
-    pub make-one : {b : Bool} (r : Step) → b ≡ holds s f p w o → stepIs r ≡ onMake f p b y → stepIs r ≡ makeOf unique t x s
-    unfolding entryIn
-    make-one r i k = k ∙ ap₂ (λ (m : Bool) (z : Plan). onMake f p m z) (i ∙ ap₂ (λ (c d : ℕ). holds s f p c d) w-is o-is) y-is ∙ by-make (aim.At f p u) h
+    module _ {d : Done} (d-is : d ≡ doneOf (undoOf unique t (entryIn j (at - 28)) s)) {x : List ℕ} (x-is : x ≡ streamAfter s (undoOf unique t (entryIn j (at - 28)) s)) where
+      pub back-stop : (m : ℕ) → d ≡ done.Stopped m → run.Stopped m (i - 1) ≡ runOf (backwards unique t j count s₀)
+      back-stop m h = backing-stop unique t j count s₀ s i at (inv .comes) more d-is x-is m h
 
-    pub undo-one : (r : Step) → stepIs r ≡ onUndo f p (holds s f p w) (passesIn f u o) o y → stepIs r ≡ undoOf unique t x s
-    unfolding entryIn
-    undo-one r k = k ∙ (λ z. onUndo f p (holds s f p (w-is z)) (passesIn f u (o-is z)) (o-is z) (y-is z)) ∙ by-undo (aim.At f p u) h
+      pub back-left : (m : ℕ) → d ≡ done.Stopped m → x ≡ streamRan (backwards unique t j count s₀)
+      back-left m h = backing-left unique t j count s₀ s i at (inv .comes) more d-is x-is m h
 
-pub ruleset step-laws = (make-refused, undo-refused, make-one, undo-one)
+      pub back-again : d ≡ done.Made → Formed j count → (keys′ marks′ fields′ : List ℕ) (n′ : ℕ) → length keys′ ≡ length keys → length marks′ ≡ length marks → length fields′ ≡ length fields
+          → n′ ≤ 3072 → Knows s keys′ n′ marks′ fields′ → Running (Backing unique t j count s₀ x (i - 1) (at - 28)) unique keys₀ marks₀ fields₀ x keys′ marks′ fields′ n′
+      back-again h formed keys′ marks′ fields′ n′ a b c few knows =
+          let e = inv .comes .1 in
+          let o = inv .comes .0 in
+          let k = undo-kept unique keys′ n′ marks′ fields′ s t (entryIn j (at - 28)) (inv .passes) knows j count (i - 1) (at - 28) formed (omega arith) (omega arith) refl in
+          running-on unique keys₀ marks₀ fields₀ s keys marks fields n _ inv x keys′ marks′ fields′ n′ (backing-again unique t j count s₀ s i at (inv .comes) more d-is x-is h)
+          (subst (λ (y : List ℕ). Passes y unique) (sym x-is) (k .0)) (subst (λ (y : List ℕ). Knows y keys′ n′ marks′ fields′) (sym x-is) (k .1)) few a b c
 
--- ---- the value field lies within the stream
-abbrev Within : ℕ → Correction → Type 0
-Within len (refuses n o) = Unit {0}
-Within len (writes f p b) = p + widthOf f ≤ len
+  module _ (end : i ≤ 0) where
+    pub back-all : run.All ≡ runOf (backwards unique t j count s₀)
+    back-all = backing-all unique t j count s₀ s i at (inv .comes) end
 
-step-within : (len : ℕ) (r : Step) (c : Correction) → stepIs r ≡ c → Within len c → StepWithin len r
-step-within len (step.Write f p b) c h w = let z : Within len (writes f p b) = subst (Within len) (sym h) w in z
-step-within len (step.Stop n) c h w = tt
+    pub back-final : s ≡ streamRan (backwards unique t j count s₀)
+    back-final = backing-final unique t j count s₀ s i at (inv .comes) end
 
-make-in : (len : ℕ) (f : Field) (p : ℕ) (b : Bool) (y : Plan) → p + widthOf f ≤ len → Within len (onMake f p b y)
-make-in len f p b (plan.Put n) w = pick-any (Within len) b w tt
-make-in len f p b (plan.Refused n o) w = pick-any (Within len) _ tt (pick-any (Within len) b tt tt)
+pub ruleset back-laws = (back-length, back-low, back-sub, back-room, back-many, back-batch, back-stop, back-left, back-all, back-final, running-laws)
 
-undo-in : (len : ℕ) (f : Field) (p : ℕ) (there : ℕ → Bool) (right : Bool) (old : ℕ) (y : Plan) → p + widthOf f ≤ len → Within len (onUndo f p there right old y)
-undo-in len f p there right old (plan.Put n) w = pick-any (Within len) (there n) (pick-any (Within len) right w tt) tt
-undo-in len f p there right old (plan.Refused n o) w = pick-any (Within len) _ tt tt
+-- ---- the journal and the stream at first
+fit-well : (j : List ℕ) (e : ℕ) → fitsAt j e ≡ true → Well (entryIn j e)
+unfolding fitsAt entryIn
+fit-well j e h = h
 
-pub aimed-in : (len : ℕ) (a : Aim) (f : Field) (p u : ℕ) → AimWithin len a → a ≡ aim.At f p u → p + widthOf f ≤ len
-aimed-in len a f p u w h = let z : AimWithin len (aim.At f p u) = subst (AimWithin len) h w in z
+entry-wells : (j : List ℕ) (n e : ℕ) → entriesFit j e n ≡ true → (i : ℕ) → i < n → Well (entryIn j (e + i * 28))
+unfolding entriesFit pick
+entry-wells j zero e h i l = absurd (omega arith)
+entry-wells j (suc n) e h i l = go (fitsAt j e) refl h (λ k. entry-wells j n (e + 28) k) i l
+  where
+    go : (b : Bool) → fitsAt j e ≡ b → pick b (entriesFit j (e + 28) n) false ≡ true → (entriesFit j (e + 28) n ≡ true → (i : ℕ) → i < n → Well (entryIn j (e + 28 + i * 28))) → (i : ℕ) → i < suc n → Well (entryIn j (e + i * 28))
+    go true q k r zero m = let z : e ≡ e + 0 * 28 = omega arith in subst (λ (y : ℕ). Well (entryIn j y)) z (fit-well j e q)
+    go true q k r (suc i) m = let z : e + 28 + i * 28 ≡ e + suc i * 28 = omega arith in subst (λ (y : ℕ). Well (entryIn j y)) z (r k i (omega arith))
+    go false q k r i m = never (cc)
 
-module _ (len : ℕ) {a : Aim} (within : AimWithin len a) (f : Field) (p u : ℕ) (h : a ≡ aim.At f p u) where
-  pub make-within : (b : Bool) (y : Plan) (r : Step) → stepIs r ≡ onMake f p b y → StepWithin len r
-  make-within b y r k = step-within len r (onMake f p b y) k (make-in len f p b y (aimed-in len a f p u within h))
+all-well : (j : List ℕ) (len unique : ℕ) → journalFits j len unique ≡ true → entriesFit j 16 (countIn j) ≡ true
+unfolding journalFits
+all-well j len unique h =
+    pick-by Goal (ltb (length j) 16) (λ _ z. never (cc)) (λ _.
+    pick-by Goal (eqb (u32At j 4) 16) (λ _.
+    pick-by Goal (eqb (u32At j 8) len) (λ _.
+    pick-by Goal (eqb (u32At j 12) unique) (λ _.
+    pick-by Goal (ltb (length j) (entryAt (countIn j))) (λ _ z. never (cc)) (λ _ z. z)) (λ _ z. never (cc))) (λ _ z. never (cc))) (λ _ z. never (cc))) h
+  where
+    Goal : Bool → Type 0
+    Goal b = b ≡ true → entriesFit j 16 (countIn j) ≡ true
 
-  pub undo-within : (there : ℕ → Bool) (right : Bool) (old : ℕ) (y : Plan) (r : Step) → stepIs r ≡ onUndo f p there right old y → StepWithin len r
-  undo-within there right old y r k = step-within len r (onUndo f p there right old y) k (undo-in len f p there right old y (aimed-in len a f p u within h))
+pub formed-by : (j : List ℕ) (len unique : ℕ) {r : Bool} {n : ℕ} → r ≡ journalFits j len unique → r ≡ true → Bytes j → n ≡ u32At j 0 → Formed j n
+formed-by j len unique is h bytes e = record { bytes = bytes; each = λ i l. entry-wells j (countIn j) 16 (all-well j len unique (sym is ∙ h)) i (let z : countIn j ≡ u32At j 0 = refl in omega arith) }
 
-pub ruleset within-laws = (aimed-in, make-within, undo-within)
+pub passes-by : (s : List ℕ) (u : ℕ) {r : Checked} (g : Globals) → r ≡ checkedOf s u → r ≡ Right g → Passes s (g .unique)
+passes-by s u g is h = record { lent = u; globals = g; checked = sym is ∙ h; strings = refl }
+
+pub some-long : (n : ℕ) → 16 ≤ n → 0 < n
+some-long n h = omega arith

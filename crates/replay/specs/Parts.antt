@@ -1,29 +1,48 @@
 -- What the contracts of the inner functions speak of.
-use Prim.Native.Nat.{ℕ, _+_, _≤_}
+use Prim.Native.Nat.{ℕ, _<_}
+use mathlib.Core.Path.{_≡_}
+use mathlib.Core.Bool.{Bool, true, false}
 use mathlib.Core.List.{List}
-use Rattle.value.specs.declared.Field.{Field}
-use Rattle.change.specs.declared.Plan.{Plan}
-use Rattle.entries.specs.Entries.{Entry}
-use Rattle.value.specs.Value.{widthOf}
-use Rattle.correction.specs.declared.Aim.{Aim}
-use Rattle.correction.specs.Parts.{aimIn}
+use Rattle.globals.specs.declared.Globals.{Globals}
+use Rattle.workbook.specs.declared.Checked.the-variants.{Right}
+use Rattle.workbook.specs.Check.{checkedOf}
+use Rattle.journal.specs.Entries.{entryAt, entryIn}
+use Rattle.journal_claims.specs.Replayed.{Bytes, Well}
 use Rattle.correction.specs.Correction.{Correction, refuses, writes}
-use Rattle.replay.specs.Steps.{entryPlan}
-use Rattle.replay.specs.declared.Step.{Step}
-use Rattle.replay.specs.declared.Step.the-variants as step
+use Rattle.replay_entry.specs.declared.Replayed.{Replayed}
+use Rattle.replay_entry.specs.declared.Replayed.the-variants as answer
+use Rattle.replay_entry.specs.Replay.{Ran, all, stopped, forwards, backwards}
+use Rattle.replay.specs.declared.Done.{Done}
+use Rattle.replay.specs.declared.Done.the-variants as done
+use Rattle.replay.specs.declared.Run.{Run}
+use Rattle.replay.specs.declared.Run.the-variants as run
 
-abbrev pub entryAimed : ℕ → ℕ → Entry → List ℕ → Aim
-entryAimed unique t x s = aimIn s unique t (x .sheet) (x .row) (x .column)
+-- the stream passes the check, with this unique count of strings
+pub record Passes (s : List ℕ) (unique : ℕ) : Type 0 where
+  pub lent : ℕ
+  pub globals : Globals
+  pub checked : checkedOf s lent ≡ Right globals
+  pub strings : globals .unique ≡ unique
 
-abbrev pub entryPlanned : Field → Entry → ℕ → Plan
-entryPlanned f x unique = entryPlan f (x .kind) (x .new) unique
+-- the journal's bytes are bytes, and its entries are well-formed
+pub record Formed (j : List ℕ) (count : ℕ) : Type 0 where
+  pub bytes : Bytes j
+  pub each : (i : ℕ) → i < count → Well (entryIn j (entryAt i))
 
--- what the functions give, in the definitions' terms
-abbrev pub stepIs : Step → Correction
-stepIs (step.Write f p b) = writes f p b
-stepIs (step.Stop n) = refuses n 0
+-- what the functions give
+abbrev pub doneOf : Correction → Done
+doneOf (refuses n o) = done.Stopped n
+doneOf (writes f p b) = done.Made
 
--- the value field lies within the stream
-abbrev pub StepWithin : ℕ → Step → Type 0
-StepWithin len (step.Write f p b) = p + widthOf f ≤ len
-StepWithin len (step.Stop n) = Unit {0}
+abbrev pub runOf : Ran → Run
+runOf (all s) = run.All
+runOf (stopped n i s) = run.Stopped n i
+
+-- so many entries, backwards where `back` is true
+abbrev pub runsBy : Bool → ℕ → ℕ → List ℕ → ℕ → List ℕ → Ran
+runsBy true unique t j n s = backwards unique t j n s
+runsBy false unique t j n s = forwards unique t j 0 n s
+
+abbrev pub replayedBy : ℕ → Run → Replayed
+replayedBy count run.All = answer.All count
+replayedBy count (run.Stopped n i) = answer.Stopped n i

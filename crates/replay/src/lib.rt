@@ -1,232 +1,343 @@
-// One entry of a journal, made again or undone: a number for a value field, or a refusal. The run over all entries is in the crate `rerun`.
+// Replay of a journal, forwards and backwards: one entry after the other, until one is refused. The addresses of many entries are looked up in one pass,
+// so that a forged journal can't drive the time up. The journal is not written.
 ghost use mathlib.Core.Path.{_≡_};
-ghost use Prim.Native.Nat.{_+_, _≤_};
+ghost use Prim.Native.Nat.{_+_, _*_, _≤_, _<_};
 ghost use lib.ListN.{length};
-ghost use Rattle.value.specs.Value.{widthOf};
 ghost use Rattle.correction.specs.Parts.{AimWithin};
-ghost use Rattle.entries.specs.Entries.{entryIn};
-ghost use Rattle.replay.specs.Steps.{firstBytes, entryPlan, holds, passesIn, onMake, onUndo, makeOf, undoOf};
-ghost use Rattle.replay.specs.Parts.{entryAimed, entryPlanned, stepIs, StepWithin};
-use change::Plan;
+ghost use Rattle.correction.specs.Correction.{streamAfter};
+ghost use Rattle.journal.specs.Entries.{countIn, entryIn};
+ghost use Rattle.replay_entry.specs.Steps.{makeOf, undoOf};
+ghost use Rattle.replay_entry.specs.Parts.{entryAimed};
+ghost use Rattle.replay_entry.specs.Replay.{forwards, backwards, replayIn, replayOf, streamRan, streamReplayed, answerReplayed};
+ghost use Rattle.address_lookup.specs.Table.{Room, Knows};
+ghost use Rattle.journal_claims.specs.Replayed.{Bytes};
+ghost use Rattle.replay.specs.Parts.{Passes, Formed, doneOf, runOf, runsBy, replayedBy};
 use correction::Aim;
-use value::Field;
+use correction::Target;
+use replay_entry::Replayed;
+use replay_entry::Step;
+use workbook::Checked;
 
-// What an entry comes to: a number for a value field, or a refusal.
-pub enum Step {
-    Write {
-        kind: Field,
-        field: usize,
-        number: u64,
-    },
-    Stop(u8),
+pub enum Done {
+    Made,
+    Stopped(u8),
 }
 
-// All entries are made; a refusal before the first of them; or the refusal of one, by its number, with the entry's number in the journal.
-pub enum Replayed {
-    All(u32),
-    Refused { number: u8, offset: usize },
+pub enum Run {
+    All,
     Stopped { number: u8, entry: u32 },
 }
 
-// ---- numbers
-fn first_byte(n: u64) -> u8
-    ensures { λ r. ⌜ r ≡ firstBytes 1 n ⌝ }
-{
-    (n % 0x100) as u8
-}
-
-fn first_half(n: u64) -> u16
-    ensures { λ r. ⌜ r ≡ firstBytes 2 n ⌝ }
-{
-    (n % 0x1_0000) as u16
-}
-
-fn first_word(n: u64) -> u32
-    ensures { λ r. ⌜ r ≡ firstBytes 4 n ⌝ }
-{
-    (n % 0x1_0000_0000) as u32
-}
-
 // ---- one entry
-fn entry_plan(f: Field, kind: u16, new: u64, unique: u32) -> Plan
-    ensures { λ r. ⌜ r ≡ entryPlan f kind new unique ⌝ }
-{
-    if kind == 0 {
-        return change::number_plan(f, new);
-    }
-    if kind == 1 {
-        return change::text_plan(f, first_word(new), unique);
-    }
-    let byte = first_byte(new);
-    if kind == 2 {
-        return change::pair_plan(f, boolerr::is_truth(byte), le::byte_as_u64(byte));
-    }
-    change::pair_plan(f, boolerr::is_error(byte), le::byte_as_u64(byte) + 256)
-}
-
-fn holds_number(s: &[u8], kind: Field, field: usize, width: u16, n: u64) -> bool
-    requires { ⌜ field + widthOf kind ≤ length (now s) ⌝ }
-    ensures { λ r. ⌜ r ≡ holds (now (s .entry)) kind field width n ⌝ }
-{
-    if le::u16_as_usize(width) != value::width_of(kind) {
-        return false;
-    }
-    let number = entries::field_number(s, kind, field);
-    if number == n {
-        return true;
-    }
-    false
-}
-
-// The check passes the first bytes of n in a field of this kind.
-fn passes_in(kind: Field, unique: u32, n: u64) -> bool
-    ensures { λ r. ⌜ r ≡ passesIn kind unique n ⌝ }
-{
-    match kind {
-        Field::NoField => true,
-        Field::Float => true,
-        Field::RkWord => {
-            if number::means_nothing(first_word(n)) {
-                return false;
-            }
-            true
-        }
-        Field::TextIndex => {
-            if first_word(n) < unique {
-                return true;
-            }
-            false
-        }
-        Field::TruthError => value::truth_error_fits(first_half(n)),
-        Field::StoredResult => value::result_fits(n),
-    }
-}
-
-fn on_make(kind: Field, field: usize, there: bool, plan: Plan) -> Step
-    ensures { λ r. ⌜ stepIs r ≡ onMake kind field there plan ⌝ }
-{
-    match plan {
-        Plan::Refused { number, offset: _ } => {
-            if number == 17 {
-                return Step::Stop(17);
-            }
-            if there {
-                return Step::Stop(number);
-            }
-            Step::Stop(19)
-        }
-        Plan::Put(n) => {
-            if there {
-                return Step::Write {
-                    kind,
-                    field,
-                    number: n,
-                };
-            }
-            Step::Stop(19)
-        }
-    }
-}
-
-fn on_undo(
+// The cell that the entry at `at` names: as it was looked up, or else by a walk.
+fn entry_aim(
     s: &[u8],
-    kind: Field,
-    field: usize,
-    width: u16,
-    old: u64,
+    j: &[u8],
+    at: usize,
     unique: u32,
-    plan: Plan,
-) -> Step
-    requires { ⌜ field + widthOf kind ≤ length (now s) ⌝ }
-    ensures { λ r. ⌜ stepIs r ≡ onUndo kind field (holds (now (s .entry)) kind field width) (passesIn kind unique old) old plan ⌝ }
-{
-    match plan {
-        Plan::Refused { number, offset: _ } => {
-            if number == 17 {
-                return Step::Stop(17);
-            }
-            Step::Stop(19)
-        }
-        Plan::Put(n) => {
-            if holds_number(s, kind, field, width, n) {
-                if passes_in(kind, unique, old) {
-                    return Step::Write {
-                        kind,
-                        field,
-                        number: old,
-                    };
-                }
-                return Step::Stop(18);
-            }
-            Step::Stop(19)
-        }
-    }
-}
-
-// The cell that the entry at `at` names.
-// Only `rerun` calls it, after the check, for an entry that lies in the journal.
-pub fn entry_aim(s: &[u8], j: &[u8], at: usize, unique: u32, sheets: usize) -> Aim
-    requires { ⌜ (at + 28 ≤ length (now j)) × (length (now s) ≤ 16777216) ⌝ }
+    sheets: usize,
+    keys: &[u64],
+    n: usize,
+    marks: &[u8],
+    fields: &[usize],
+) -> Aim
+    requires { ⌜ (at + 28 ≤ length (now j)) × (length (now s) ≤ 16777216) × Room n (now keys) (now marks) (now fields) × Knows (now s) (now keys) n (now marks) (now fields) ⌝ }
     ensures { λ r. ⌜ r ≡ entryAimed unique sheets (entryIn (now (j .entry)) at) (now (s .entry)) ⌝ }
     ensures { λ r. ⌜ AimWithin (length (now (s .entry))) r ⌝ }
 {
-    let sheet = le::u32_at(j, at);
-    let row = le::u16_as_u32(le::u16_at(j, at + 4));
-    let column = le::u16_as_u32(le::u16_at(j, at + 6));
-    correction::aim_in(s, unique, sheets, sheet, row, column)
-}
-
-// The plan for the entry at `at`, in a field of this kind.
-fn plan_at(j: &[u8], at: usize, kind: Field, unique: u32) -> Plan
-    requires { ⌜ at + 28 ≤ length (now j) ⌝ }
-    ensures { λ r. ⌜ r ≡ entryPlanned kind (entryIn (now (j .entry)) at) unique ⌝ }
-{
-    let k = le::u16_at(j, at + 8);
-    let new = le::u64_at(j, at + 20);
-    entry_plan(kind, k, new, unique)
-}
-
-// The entry at `at` made again, where `aim` is the cell that it names.
-// Only `rerun` calls it, after the check, for an entry that lies in the journal, with its cell.
-pub fn make_aimed(s: &[u8], j: &[u8], at: usize, unique: u32, sheets: usize, aim: Aim) -> Step
-    requires { ⌜ (at + 28 ≤ length (now j)) × (aim ≡ entryAimed unique sheets (entryIn (now j) at) (now s)) × AimWithin (length (now s)) aim ⌝ }
-    ensures { λ r. ⌜ stepIs r ≡ makeOf unique sheets (entryIn (now (j .entry)) at) (now (s .entry)) ⌝ }
-    ensures { λ r. ⌜ StepWithin (length (now (s .entry))) r ⌝ }
-{
-    match aim {
-        Aim::Refused { number, offset: _ } => Step::Stop(number),
-        Aim::At {
+    match address_lookup::cell_of_entry(s, j, at, unique, sheets, keys, n, marks, fields) {
+        Target::One { kind, field } => Aim::At {
             kind,
             field,
-            unique: u,
+            unique,
+        },
+        Target::None => replay_entry::entry_aim(s, j, at, unique, sheets),
+        Target::Many => replay_entry::entry_aim(s, j, at, unique, sheets),
+    }
+}
+
+fn make_entry(
+    s: &mut [u8],
+    j: &[u8],
+    at: usize,
+    unique: u32,
+    sheets: usize,
+    keys: &[u64],
+    n: usize,
+    marks: &[u8],
+    fields: &[usize],
+) -> Done
+    requires { ⌜ (at + 28 ≤ length (now j)) × (length (now s) ≤ 16777216) × Room n (now keys) (now marks) (now fields) × Knows (now s) (now keys) n (now marks) (now fields) ⌝ }
+    ensures { λ r. ⌜ r ≡ doneOf (makeOf unique sheets (entryIn (now (j .entry)) at) (now (s .entry))) ⌝ }
+    ensures { λ r. ⌜ now (s .exit) ≡ streamAfter (now (s .entry)) (makeOf unique sheets (entryIn (now (j .entry)) at) (now (s .entry))) ⌝ }
+{
+    let aim = entry_aim(&s[..], j, at, unique, sheets, keys, n, marks, fields);
+    match replay_entry::make_aimed(&s[..], j, at, unique, sheets, aim) {
+        Step::Stop(number) => Done::Stopped(number),
+        Step::Write {
+            kind,
+            field,
+            number,
         } => {
-            let plan = plan_at(j, at, kind, u);
-            let width = le::u16_at(j, at + 10);
-            let old = le::u64_at(j, at + 12);
-            let there = holds_number(s, kind, field, width, old);
-            on_make(kind, field, there, plan)
+            bytes::store(s, field, value::width_of(kind), number);
+            Done::Made
         }
     }
 }
 
-// The entry undone, where `aim` is the cell that it names.
-// Only `rerun` calls it, after the check, for an entry that lies in the journal, with its cell.
-pub fn undo_aimed(s: &[u8], j: &[u8], at: usize, unique: u32, sheets: usize, aim: Aim) -> Step
-    requires { ⌜ (at + 28 ≤ length (now j)) × (aim ≡ entryAimed unique sheets (entryIn (now j) at) (now s)) × AimWithin (length (now s)) aim ⌝ }
-    ensures { λ r. ⌜ stepIs r ≡ undoOf unique sheets (entryIn (now (j .entry)) at) (now (s .entry)) ⌝ }
-    ensures { λ r. ⌜ StepWithin (length (now (s .entry))) r ⌝ }
+fn undo_entry(
+    s: &mut [u8],
+    j: &[u8],
+    at: usize,
+    unique: u32,
+    sheets: usize,
+    keys: &[u64],
+    n: usize,
+    marks: &[u8],
+    fields: &[usize],
+) -> Done
+    requires { ⌜ (at + 28 ≤ length (now j)) × (length (now s) ≤ 16777216) × Room n (now keys) (now marks) (now fields) × Knows (now s) (now keys) n (now marks) (now fields) ⌝ }
+    ensures { λ r. ⌜ r ≡ doneOf (undoOf unique sheets (entryIn (now (j .entry)) at) (now (s .entry))) ⌝ }
+    ensures { λ r. ⌜ now (s .exit) ≡ streamAfter (now (s .entry)) (undoOf unique sheets (entryIn (now (j .entry)) at) (now (s .entry))) ⌝ }
 {
-    match aim {
-        Aim::Refused { number, offset: _ } => Step::Stop(number),
-        Aim::At {
+    let aim = entry_aim(&s[..], j, at, unique, sheets, keys, n, marks, fields);
+    match replay_entry::undo_aimed(&s[..], j, at, unique, sheets, aim) {
+        Step::Stop(number) => Done::Stopped(number),
+        Step::Write {
             kind,
             field,
-            unique: u,
+            number,
         } => {
-            let plan = plan_at(j, at, kind, u);
-            let width = le::u16_at(j, at + 10);
-            let old = le::u64_at(j, at + 12);
-            on_undo(s, kind, field, width, old, u, plan)
+            bytes::store(s, field, value::width_of(kind), number);
+            Done::Made
         }
+    }
+}
+
+// ---- batches
+// How many of the entries that are left are looked up at once.
+fn batch(left: u32) -> usize
+    ensures { λ r. ⌜ (r ≤ left) × (r ≤ 3072) ⌝ }
+{
+    if left <= 3072 {
+        return bytes::u32_as_usize(left);
+    }
+    3072
+}
+
+// The addresses of so many entries from `from` on, where that is due; n have been looked up before.
+fn refill(
+    s: &[u8],
+    j: &[u8],
+    due: bool,
+    from: usize,
+    many: usize,
+    keys: &mut [u64],
+    n: usize,
+    marks: &mut [u8],
+    fields: &mut [usize],
+) -> usize
+    requires { ⌜ (length (now s) ≤ 16777216) × (from + many * 28 ≤ length (now j)) × (many ≤ 3072) × Room 3072 (now keys) (now marks) (now fields) × (n ≤ 3072) × Knows (now s) (now keys) n (now marks) (now fields) ⌝ }
+    ensures { λ r. ⌜ (r ≤ 3072) × Knows (now (s .entry)) (now (keys .exit)) r (now (marks .exit)) (now (fields .exit)) ⌝ }
+{
+    if due {
+        return address_lookup::look_up(s, j, from, many, keys, marks, fields);
+    }
+    n
+}
+
+// ---- all entries
+fn run_forwards(
+    s: &mut [u8],
+    j: &[u8],
+    count: u32,
+    unique: u32,
+    sheets: usize,
+    keys: &mut [u64],
+    marks: &mut [u8],
+    fields: &mut [usize],
+) -> Run
+    requires { ⌜ (16 + count * 28 ≤ length (now j)) × (length (now s) ≤ 16777216) × Room 3072 (now keys) (now marks) (now fields) × Passes (now s) unique × Formed (now j) count ⌝ }
+    ensures { λ r. ⌜ r ≡ runOf (forwards unique sheets (now (j .entry)) 0 count (now (s .entry))) ⌝ }
+    ensures { λ r. ⌜ now (s .exit) ≡ streamRan (forwards unique sheets (now (j .entry)) 0 count (now (s .entry))) ⌝ }
+{
+    let mut i: u32 = 0;
+    let mut at: usize = 16;
+    let mut n: usize = 0;
+    let mut left: u32 = 0;
+    while i < count {
+        n = refill(
+            &s[..],
+            j,
+            left == 0,
+            at,
+            batch(count - i),
+            keys,
+            n,
+            marks,
+            fields,
+        );
+        left = fewer(left);
+        match make_entry(
+            s,
+            j,
+            at,
+            unique,
+            sheets,
+            &keys[..],
+            n,
+            &marks[..],
+            &fields[..],
+        ) {
+            Done::Stopped(number) => {
+                return Run::Stopped { number, entry: i };
+            }
+            Done::Made => {
+                i += 1;
+                at += 28;
+            }
+        }
+    }
+    Run::All
+}
+
+// How many more entries the batch serves.
+fn fewer(left: u32) -> u32 {
+    if left == 0 {
+        return 3071;
+    }
+    left - 1
+}
+
+fn run_backwards(
+    s: &mut [u8],
+    j: &[u8],
+    count: u32,
+    unique: u32,
+    sheets: usize,
+    keys: &mut [u64],
+    marks: &mut [u8],
+    fields: &mut [usize],
+) -> Run
+    requires { ⌜ (16 + count * 28 ≤ length (now j)) × (length (now s) ≤ 16777216) × Room 3072 (now keys) (now marks) (now fields) × Passes (now s) unique × Formed (now j) count ⌝ }
+    ensures { λ r. ⌜ r ≡ runOf (backwards unique sheets (now (j .entry)) count (now (s .entry))) ⌝ }
+    ensures { λ r. ⌜ now (s .exit) ≡ streamRan (backwards unique sheets (now (j .entry)) count (now (s .entry))) ⌝ }
+{
+    let mut i: u32 = count;
+    let mut at: usize = 16 + bytes::u32_as_usize(count) * 28;
+    let mut n: usize = 0;
+    let mut left: u32 = 0;
+    while 0 < i {
+        let many = batch(i);
+        n = refill(
+            &s[..],
+            j,
+            left == 0,
+            at - many * 28,
+            many,
+            keys,
+            n,
+            marks,
+            fields,
+        );
+        left = fewer(left);
+        i -= 1;
+        at -= 28;
+        match undo_entry(
+            s,
+            j,
+            at,
+            unique,
+            sheets,
+            &keys[..],
+            n,
+            &marks[..],
+            &fields[..],
+        ) {
+            Done::Stopped(number) => {
+                return Run::Stopped { number, entry: i };
+            }
+            Done::Made => {}
+        }
+    }
+    Run::All
+}
+
+fn run_batches(s: &mut [u8], j: &[u8], count: u32, unique: u32, sheets: usize, back: bool) -> Run
+    requires { ⌜ (16 + count * 28 ≤ length (now j)) × (length (now s) ≤ 16777216) × Passes (now s) unique × Formed (now j) count ⌝ }
+    ensures { λ r. ⌜ r ≡ runOf (runsBy back unique sheets (now (j .entry)) count (now (s .entry))) ⌝ }
+    ensures { λ r. ⌜ now (s .exit) ≡ streamRan (runsBy back unique sheets (now (j .entry)) count (now (s .entry))) ⌝ }
+{
+    let mut keys = [0u64; 3072];
+    let mut marks = [0u8; 3072];
+    let mut fields = [0usize; 3072];
+    if back {
+        return run_backwards(
+            s,
+            j,
+            count,
+            unique,
+            sheets,
+            &mut keys,
+            &mut marks,
+            &mut fields,
+        );
+    }
+    run_forwards(
+        s,
+        j,
+        count,
+        unique,
+        sheets,
+        &mut keys,
+        &mut marks,
+        &mut fields,
+    )
+}
+
+fn replayed_by(count: u32, r: Run) -> Replayed
+    ensures { λ a. ⌜ a ≡ replayedBy count r ⌝ }
+{
+    match r {
+        Run::All => Replayed::All(count),
+        Run::Stopped { number, entry } => Replayed::Stopped { number, entry },
+    }
+}
+
+// The journal's bytes are bytes.
+fn first_byte(j: &[u8]) -> u8
+    requires { ⌜ 0 < length (now j) ⌝ }
+    ensures { λ r. ⌜ Bytes (now (j .entry)) ⌝ }
+{
+    j[0]
+}
+
+// Replay a journal on a stream that passes, with `unique` strings, backwards where `back` is true; `sheets` is how many sheets the template has. Entries before
+// one that is refused stay made. It stays out of its callers' frames, which have a check below them: a check and the batch's tables together would be too deep.
+pub fn replay_in(s: &mut [u8], j: &[u8], unique: u32, sheets: usize, back: bool) -> Replayed
+    requires { ⌜ (length (now s) ≤ 16777216) × Passes (now s) unique ⌝ }
+    ensures { λ r. ⌜ r ≡ answerReplayed (countIn (now (j .entry))) (replayIn (now (s .entry)) unique sheets (now (j .entry)) back) ⌝ }
+    ensures { λ r. ⌜ now (s .exit) ≡ streamReplayed (now (s .entry)) (replayIn (now (s .entry)) unique sheets (now (j .entry)) back) ⌝ }
+{
+    if journal::journal_fits(j, s.len(), unique) {
+        let _ = first_byte(j);
+        let count = bytes::u32_at(j, 0);
+        let r = run_batches(s, j, count, unique, sheets, back);
+        return replayed_by(count, r);
+    }
+    Replayed::Refused {
+        number: 21,
+        offset: 0,
+    }
+}
+
+// Replay a journal on a stream.
+pub fn replay(s: &mut [u8], j: &[u8], back: bool) -> Replayed
+    ensures { λ r. ⌜ r ≡ answerReplayed (countIn (now (j .entry))) (replayOf (now (s .entry)) 0 0 (now (j .entry)) back) ⌝ }
+    ensures { λ r. ⌜ now (s .exit) ≡ streamReplayed (now (s .entry)) (replayOf (now (s .entry)) 0 0 (now (j .entry)) back) ⌝ }
+{
+    match workbook::check_with(&s[..], 0) {
+        Checked::Wrong { number, offset } => Replayed::Refused { number, offset },
+        Checked::Right(g) => replay_in(s, j, g.unique, 0, back),
     }
 }

@@ -11,8 +11,8 @@ use lib.Seq.{length-sets}
 use lib.Dec.{eqb}
 use mir.Val.{Fits as FitsIn}
 use mir.Syntax.{w64}
-use Rattle.walk.proofs.Choice.{picks-told, pick-lt, pick-nlt}
-use Rattle.le.specs.Bytes.{byteAt, numAt, u16At}
+use Rattle.steps.proofs.Choice.{picks-told, pick-lt, pick-nlt}
+use Rattle.bytes.specs.Bytes.{byteAt, numAt, u16At}
 use Rattle.record.specs.declared.Header.{Header}
 use Rattle.record.specs.Record.{headerAt}
 use Rattle.segments.specs.declared.Cursor.{Cursor}

@@ -8,10 +8,10 @@ use native.Mathlib.Omega.{arith}
 use lib.ListN.{length}
 use lib.Dec.{ltb, eqb}
 use borrow.Author.Tests.{ltb-false, eqb-true, eqb-false}
-use Rattle.walk.specs.Choice.{pick}
-use Rattle.walk.proofs.Choice.{never, pick-any, pick-by, pick-true, pick-false, pick-nlt, pick-eq, pick-ne}
-use Rattle.le.specs.Bytes.{byteAt, numAt, u16At}
-use Rattle.le.proofs.Laws.{Same, num-same}
+use Rattle.steps.specs.Choice.{pick}
+use Rattle.steps.proofs.Choice.{never, pick-any, pick-by, pick-true, pick-false, pick-nlt, pick-eq, pick-ne}
+use Rattle.bytes.specs.Bytes.{byteAt, numAt, u16At}
+use Rattle.bytes.proofs.Laws.{Same, num-same}
 use Rattle.record.specs.declared.Header.{Header}
 use Rattle.record.specs.declared.Header.the-variants.{Record, Cut, End}
 use Rattle.record.specs.Record.{headerAt}

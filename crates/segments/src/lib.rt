@@ -4,7 +4,7 @@ ghost use mathlib.Core.Path.{_≡_};
 ghost use Prim.Native.Nat.{_+_, _-_, _*_, _/_, _≤_};
 ghost use mathlib.Core.Bool.{true};
 ghost use lib.ListN.{length};
-ghost use Rattle.le.specs.Bytes.{numAt};
+ghost use Rattle.bytes.specs.Bytes.{numAt};
 ghost use Rattle.segments.specs.Segments.{listOf, continues, nextSegment, filled, need, widthOf, room, items};
 ghost use Rattle.segments.specs.Parts.{Inside, ends, moved, roomed, Passes, Fits, nums, stored};
 use record::Header;
@@ -49,7 +49,7 @@ pub fn continue_at(s: &[u8], p: usize) -> bool
     if s.len() - p < 4 {
         return false;
     }
-    le::u16_at(s, p) == 0x003c
+    bytes::u16_at(s, p) == 0x003c
 }
 
 // The CONTINUE that is needed after this segment.
@@ -91,7 +91,7 @@ pub fn next_segment(s: &[u8], number: u8, c: Cursor) -> Moved
 }
 
 // The cursor itself, where what was read up to it fills its segments.
-pub fn fills(s: &[u8], number: u8, c: Cursor) -> Moved
+pub fn ends_with_segments(s: &[u8], number: u8, c: Cursor) -> Moved
     requires { ⌜ Inside (now s) c ⌝ }
     ensures { λ r. ⌜ moved r ≡ filled number (now (s .entry)) c ⌝ }
 {
@@ -246,9 +246,9 @@ pub fn unit_at(s: &[u8], w: usize, p: usize) -> u16
     ensures { λ r. ⌜ r ≡ numAt (now (s .entry)) w p ⌝ }
 {
     if w == 1 {
-        return le::byte_as_u16(s[p]);
+        return bytes::byte_as_u16(s[p]);
     }
-    le::u16_at(s, p)
+    bytes::u16_at(s, p)
 }
 
 // k characters of w bytes at p, into the buffer from j on.

@@ -12,7 +12,7 @@ use borrow.Author.Tests.{ltb-true, ltb-false}
 use Rattle.io.specs.Counts.{Counts}
 use Rattle.io.specs.Digits.{Fewest}
 use Rattle.cell.specs.declared.Cell.{Cell}
-use Rattle.sheetlist.specs.Agreement.{Sheet}
+use Rattle.sheet_agreement.specs.Agreement.{Sheet}
 use Rattle.globals.specs.Sheets.{sheetsFrom}
 use Rattle.reading.specs.declared.Place.{Place}
 use Rattle.reading.specs.Cells.{remaining, listedFrom}

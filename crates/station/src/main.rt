@@ -82,7 +82,7 @@ fn put_truth(out: &mut [u8; 4096], at: usize, truth: u8) -> usize
     ensures { λ r. ⌜ r ≤ at + 26 ⌝ }
 {
     let after = put_word(out, at, b"truth ");
-    put_decimal(out, after, le::byte_as_u64(truth))
+    put_decimal(out, after, bytes::byte_as_u64(truth))
 }
 
 fn put_error(out: &mut [u8; 4096], at: usize, code: u8) -> usize
@@ -90,7 +90,7 @@ fn put_error(out: &mut [u8; 4096], at: usize, code: u8) -> usize
     ensures { λ r. ⌜ r ≤ at + 26 ⌝ }
 {
     let after = put_word(out, at, b"error ");
-    put_hex(out, after, le::byte_as_u64(code), 2)
+    put_hex(out, after, bytes::byte_as_u64(code), 2)
 }
 
 fn put_result(out: &mut [u8; 4096], at: usize, result: FormulaResult) -> usize
@@ -112,7 +112,7 @@ fn put_text(out: &mut [u8; 4096], at: usize, index: u32) -> usize
     ensures { λ r. ⌜ r ≤ at + 26 ⌝ }
 {
     let after = put_word(out, at, b"text ");
-    put_decimal(out, after, le::u32_as_u64(index))
+    put_decimal(out, after, bytes::u32_as_u64(index))
 }
 
 fn put_formula(out: &mut [u8; 4096], at: usize, result: FormulaResult) -> usize
@@ -143,9 +143,9 @@ fn put_cell(out: &mut [u8; 4096], at: usize, cell: Cell) -> usize
     ensures { λ r. ⌜ r ≤ at + 96 ⌝ }
 {
     let content = cell.value;
-    let row = put_decimal(out, at, le::u16_as_u64(cell.row));
+    let row = put_decimal(out, at, bytes::u16_as_u64(cell.row));
     let space = put_word(out, row, b" ");
-    let column = put_decimal(out, space, le::u16_as_u64(cell.column));
+    let column = put_decimal(out, space, bytes::u16_as_u64(cell.column));
     let gap = put_word(out, column, b" ");
     let value = put_value(out, gap, content);
     put_word(out, value, b"\n")
@@ -159,7 +159,7 @@ fn put_counts(out: &mut [u8; 4096], sheets: usize, strings: u32, cells: u64) -> 
     let first = put_word(out, 0, b"sheets ");
     let sheet_count = put_decimal(out, first, usize_as_u64(sheets));
     let second = put_word(out, sheet_count, b" strings ");
-    let string_count = put_decimal(out, second, le::u32_as_u64(strings));
+    let string_count = put_decimal(out, second, bytes::u32_as_u64(strings));
     let third = put_word(out, string_count, b" cells ");
     let cell_count = put_decimal(out, third, cells);
     put_word(out, cell_count, b"\n")
@@ -172,7 +172,7 @@ fn put_sheet(out: &mut [u8; 4096], at: usize, n: u64, rows: u32) -> usize
     let first = put_word(out, at, b"sheet ");
     let sheet = put_decimal(out, first, n);
     let second = put_word(out, sheet, b" rows ");
-    let count = put_decimal(out, second, le::u32_as_u64(rows));
+    let count = put_decimal(out, second, bytes::u32_as_u64(rows));
     put_word(out, count, b"\n")
 }
 
@@ -180,7 +180,7 @@ fn put_refused(out: &mut [u8; 4096], number: u8, offset: usize) -> usize
     ensures { λ r. ⌜ r ≤ 96 ⌝ }
 {
     let first = put_word(out, 0, b"refused ");
-    let refusal = put_decimal(out, first, le::byte_as_u64(number));
+    let refusal = put_decimal(out, first, bytes::byte_as_u64(number));
     let second = put_word(out, refusal, b" at ");
     let place = put_decimal(out, second, usize_as_u64(offset));
     put_word(out, place, b"\n")

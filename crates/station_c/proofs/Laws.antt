@@ -4,7 +4,7 @@ use mathlib.Core.Path.{_≡_, ap, sym, _∙_}
 use mathlib.Core.List.{List}
 use mathlib.Core.Bool.{false}
 use lib.ListN.{length}
-use Rattle.formula.specs.declared.Judgement.{Judgement}
+use Rattle.tokens.specs.declared.Judgement.{Judgement}
 use Rattle.workbook.specs.declared.Checked.{Checked}
 use Rattle.workbook.specs.declared.Checked.the-variants as checked
 use Rattle.globals.specs.declared.Globals.{Globals}
@@ -12,8 +12,8 @@ use Rattle.globals.specs.Sheets.{sheetsOf}
 use Rattle.segments.specs.declared.Cursor.{Cursor}
 use Rattle.fetch.specs.declared.NextString.{NextString}
 use Rattle.fetch.specs.Strings.{firstOf}
-use Rattle.change.specs.declared.Answer as change
-use Rattle.change.specs.declared.NewValue.{NewValue}
+use Rattle.new_value.specs.declared.Answer as change
+use Rattle.new_value.specs.declared.NewValue.{NewValue}
 use Rattle.correction.specs.Correction.{correctionOf, answerOf, streamAfter}
 use Rattle.strings.specs.declared.Fetched.{Fetched}
 use Rattle.listing.specs.Listing.{firstSheet}
@@ -34,24 +34,24 @@ use Rattle.station_c.specs.declared.Cells.{Cells}
 use Rattle.station_c.specs.declared.Filled.{Filled}
 use Rattle.station_c.specs.declared.Comparison.{Comparison}
 use Rattle.station_c.specs.declared.tables.FilledTable.{FilledTable}
-use Rattle.places.specs.declared.Filled as places
+use Rattle.string_places.specs.declared.Filled as places
 use Rattle.pair.specs.Pair.{pairCorrectionOf, sessionAfter, answerOf as pairAnswer}
-use Rattle.pairanswers.specs.declared.Answer as pairs
-use Rattle.pairanswers.specs.Answers.{answerSeen}
-use Rattle.batch.specs.declared.Filled as batch
-use Rattle.batch.specs.Batch.{Batch, filledSeen as batchSeen}
+use Rattle.pair_answers.specs.declared.Answer as pairs
+use Rattle.pair_answers.specs.Answers.{answerSeen}
+use Rattle.cell_words.specs.declared.Filled as batch
+use Rattle.cell_words.specs.Batch.{Batch, filledSeen as batchSeen}
 use Rattle.pair.specs.declared.Of.{Of}
-use Rattle.pairanswers.specs.Answers.{ofNumber}
-use Rattle.paircompact.specs.declared.PairCompacted.{PairCompacted}
-use Rattle.paircompact.specs.declared.PairCompacted.the-variants as pairCompacted
+use Rattle.pair_answers.specs.Answers.{ofNumber}
+use Rattle.pair_compact.specs.declared.PairCompacted.{PairCompacted}
+use Rattle.pair_compact.specs.declared.PairCompacted.the-variants as pairCompacted
 use Rattle.station_c.specs.declared.NewSession.{NewSession}
 use Rattle.station_c.specs.Answers.{checkSeen, judgeSeen, correctSeen, fetchSeen, textSeen, sheetSeen, cellsSeen, filledSeen, tableSeen, comparedSeen, compactSeen, pairCompactSeen}
 use Rattle.correction.specs.Correction as corrections
 use Rattle.journal.specs.Journal.{journalledOf, journalAfter}
-use Rattle.pairjournal.specs.Journals.{pairJournalledOf, pairJournalAfter}
-use Rattle.journalanswers.specs.declared.Answer as journals
-use Rattle.journalanswers.specs.Answers.{answerSeen as journalSeen}
-use Rattle.compacting.specs.declared.Compacted.{Compacted}
+use Rattle.pair_journal.specs.Journals.{pairJournalledOf, pairJournalAfter}
+use Rattle.journal_answers.specs.declared.Answer as journals
+use Rattle.journal_answers.specs.Answers.{answerSeen as journalSeen}
+use Rattle.compact.specs.declared.Compacted.{Compacted}
 use Rattle.station_c.specs.declared.NewStream.{NewStream}
 
 -- r is what the call gave, a what its promise says, x how the code saw it

@@ -5,15 +5,15 @@ use mathlib.Core.List.{List}
 use lib.Dec.{eqb}
 use lib.Ieee.{Float}
 use lib.ListN.{length}
-use Rattle.walk.specs.Choice.{pick}
-use Rattle.formula.specs.declared.Judgement.{Judgement}
-use Rattle.formula.specs.declared.Judgement.the-variants as judgement
+use Rattle.steps.specs.Choice.{pick}
+use Rattle.tokens.specs.declared.Judgement.{Judgement}
+use Rattle.tokens.specs.declared.Judgement.the-variants as judgement
 use Rattle.workbook.specs.declared.Checked.{Checked}
 use Rattle.workbook.specs.declared.Checked.the-variants as checked
-use Rattle.change.specs.declared.NewValue.{NewValue}
-use Rattle.change.specs.declared.NewValue.the-variants.{Number, Text, Truth, Error}
-use Rattle.change.specs.declared.Answer as change
-use Rattle.change.specs.declared.Answer.the-variants as changed
+use Rattle.new_value.specs.declared.NewValue.{NewValue}
+use Rattle.new_value.specs.declared.NewValue.the-variants.{Number, Text, Truth, Error}
+use Rattle.new_value.specs.declared.Answer as change
+use Rattle.new_value.specs.declared.Answer.the-variants as changed
 use Rattle.segments.specs.declared.Cursor.{Cursor}
 use Rattle.globals.specs.Sheets.{sheetsOf}
 use Rattle.strings.specs.declared.Fetched.{Fetched}
@@ -34,11 +34,11 @@ use Rattle.compare.specs.declared.Compared.the-variants as compared
 use Rattle.station_c.specs.declared.Check.{Check}
 use Rattle.station_c.specs.declared.Answer.{Answer}
 use Rattle.station_c.specs.declared.Units.{Units}
-use Rattle.compacting.specs.declared.Compacted.{Compacted}
-use Rattle.compacting.specs.declared.Compacted.the-variants as compacted
-use Rattle.pairanswers.specs.Answers.{ofNumber}
-use Rattle.paircompact.specs.declared.PairCompacted.{PairCompacted}
-use Rattle.paircompact.specs.declared.PairCompacted.the-variants as pairCompacted
+use Rattle.compact.specs.declared.Compacted.{Compacted}
+use Rattle.compact.specs.declared.Compacted.the-variants as compacted
+use Rattle.pair_answers.specs.Answers.{ofNumber}
+use Rattle.pair_compact.specs.declared.PairCompacted.{PairCompacted}
+use Rattle.pair_compact.specs.declared.PairCompacted.the-variants as pairCompacted
 use Rattle.station_c.specs.declared.NewStream.{NewStream}
 use Rattle.station_c.specs.declared.NewSession.{NewSession}
 use Rattle.station_c.specs.declared.SharedString.{SharedString}
@@ -47,9 +47,9 @@ use Rattle.station_c.specs.declared.Cells.{Cells}
 use Rattle.station_c.specs.declared.Filled.{Filled}
 use Rattle.station_c.specs.declared.Comparison.{Comparison}
 use Rattle.station_c.specs.declared.tables.FilledTable.{FilledTable}
-use Rattle.places.specs.declared.Filled as places
-use Rattle.places.specs.declared.Filled.the-variants as filled
-use Rattle.batch.specs.Batch.{Batch}
+use Rattle.string_places.specs.declared.Filled as places
+use Rattle.string_places.specs.declared.Filled.the-variants as filled
+use Rattle.cell_words.specs.Batch.{Batch}
 
 -- how many sheets and strings; the sheet list starts after the globals' BOF, the strings in the table
 abbrev pub checkSeen : List ℕ → Checked → Check

@@ -1,12 +1,12 @@
 // A stream without its unused strings as a C function. The archive has the C functions of this crate alone.
 ghost use mathlib.Core.Path.{_≡_};
-ghost use Rattle.compacting.specs.Compacted.{answerOf, bufferAfter};
-ghost use Rattle.paircompact.specs.PairCompact.{pairCompactOf, pairBufferAfter};
+ghost use Rattle.compact.specs.Compacted.{answerOf, bufferAfter};
+ghost use Rattle.pair_compact.specs.PairCompact.{pairCompactOf, pairBufferAfter};
 ghost use Rattle.station_c.specs.Answers.{compactSeen, pairCompactSeen};
 use crate::NewSession;
 use crate::NewStream;
-use compacting::Compacted;
-use paircompact::PairCompacted;
+use compact::Compacted;
+use pair_compact::PairCompacted;
 
 fn stream_of(answer: Compacted) -> NewStream
     ensures { λ r. ⌜ r ≡ compactSeen answer ⌝ }
@@ -31,7 +31,7 @@ pub extern "C" fn station_compact(s: &[u8], out: &mut [u8]) -> NewStream
     ensures { λ r. ⌜ r ≡ compactSeen (answerOf (now (s .entry)) 0 (now (out .entry))) ⌝ }
     ensures { λ r. ⌜ now (out .exit) ≡ bufferAfter (now (s .entry)) 0 (now (out .entry)) ⌝ }
 {
-    stream_of(compacting::compact(s, out))
+    stream_of(compact::compact(s, out))
 }
 
 fn session_of(answer: PairCompacted) -> NewSession
@@ -45,7 +45,7 @@ fn session_of(answer: PairCompacted) -> NewSession
             written: length,
         },
         PairCompacted::Refused { of, number, offset } => NewSession {
-            whose: pairanswers::of_number(of),
+            whose: pair_answers::of_number(of),
             number,
             offset,
             written: 0,
@@ -63,5 +63,5 @@ pub extern "C" fn station_pair_compact(
     ensures { λ r. ⌜ r ≡ pairCompactSeen (pairCompactOf (now (template .entry)) (now (session .entry)) (now (out .entry))) ⌝ }
     ensures { λ r. ⌜ now (out .exit) ≡ pairBufferAfter (now (template .entry)) (now (session .entry)) (now (out .entry)) ⌝ }
 {
-    session_of(paircompact::pair_compact(template, session, out))
+    session_of(pair_compact::pair_compact(template, session, out))
 }

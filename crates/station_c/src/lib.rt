@@ -8,7 +8,7 @@ mod tables;
 mod texts;
 
 ghost use mathlib.Core.Path.{_≡_};
-ghost use Rattle.judge.specs.Judge.{judgeOf};
+ghost use Rattle.formula.specs.Judge.{judgeOf};
 ghost use Rattle.workbook.specs.Check.{checkedOf};
 ghost use Rattle.listing.specs.Listing.{nextSheetOf, cellsOf};
 ghost use Rattle.reading.specs.Cells.{listedFrom};
@@ -17,11 +17,11 @@ ghost use Rattle.fetch.specs.Fetch.{answerOf, bufferAfter};
 ghost use Rattle.fetch.specs.Strings.{nextStringOf, nextBuffer};
 ghost use Rattle.correction.specs.Correction.{correctionOf, answerOf as correctedOf, streamAfter};
 ghost use Rattle.station_c.specs.Answers.{checkSeen, judgeSeen, correctSeen, fetchSeen, textSeen, sheetSeen, cellsSeen, filledSeen, newValue};
-ghost use Rattle.batch.specs.Batch.{filledFrom};
-use change::NewValue;
+ghost use Rattle.cell_words.specs.Batch.{filledFrom};
 use fetch::NextString;
 use listing::NextSheet;
 use listing::Start;
+use new_value::NewValue;
 use reading::Place;
 use segments::Cursor;
 use strings::Fetched;
@@ -170,12 +170,12 @@ pub extern "C" fn station_check(s: &[u8]) -> Check
 pub extern "C" fn station_judge(tokens: &[u8], trailing: &[u8]) -> Answer
     ensures { λ r. ⌜ r ≡ judgeSeen (judgeOf (now (tokens .entry)) (now (trailing .entry))) ⌝ }
 {
-    match judge::judge(tokens, trailing) {
-        formula::Judgement::Accepted => Answer {
+    match formula::judge(tokens, trailing) {
+        tokens::Judgement::Accepted => Answer {
             number: 0,
             offset: 0,
         },
-        formula::Judgement::Refused { number, offset } => Answer { number, offset },
+        tokens::Judgement::Refused { number, offset } => Answer { number, offset },
     }
 }
 
@@ -332,7 +332,7 @@ pub extern "C" fn station_next_cells(
     ensures { λ r. ⌜ r ≡ filledSeen (filledFrom (now (s .entry)) (record { at = at; part = part; level = level }) (now (words .entry))) ⌝ }
     ensures { λ r. ⌜ now (words .exit) ≡ filledFrom (now (s .entry)) (record { at = at; part = part; level = level }) (now (words .entry)) .words ⌝ }
 {
-    let filled = batch::fill(s, Place { at, part, level }, words);
+    let filled = cell_words::fill(s, Place { at, part, level }, words);
     let place = filled.place;
     Filled {
         cells: filled.cells,
@@ -370,10 +370,10 @@ pub extern "C" fn station_correct(
     ensures { λ r. ⌜ now (s .exit) ≡ streamAfter (now (s .entry)) (correctionOf (now (s .entry)) 0 0 sheet row column (newValue kind number index byte)) ⌝ }
 {
     match correction::correct(s, sheet, row, column, new_value(kind, number, index, byte)) {
-        change::Answer::Granted => Answer {
+        new_value::Answer::Granted => Answer {
             number: 0,
             offset: 0,
         },
-        change::Answer::Refused { number, offset } => Answer { number, offset },
+        new_value::Answer::Refused { number, offset } => Answer { number, offset },
     }
 }

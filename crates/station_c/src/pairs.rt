@@ -1,36 +1,36 @@
-// One template, many sessions, as C functions: what the crate `pairanswers` answers. The archive has the C functions of this crate alone.
+// One template, many sessions, as C functions: what the crate `pair_answers` answers. The archive has the C functions of this crate alone.
 ghost use mathlib.Core.Path.{_≡_};
 ghost use Rattle.pair.specs.Pair.{pairOf, pairSheetOf, pairCellsOf, pairCorrectionOf, answerOf, sessionAfter};
-ghost use Rattle.pairtexts.specs.Texts.{pairFetchOf, pairBufferOf, pairTextOf, pairTextBuffer};
-ghost use Rattle.pairtexts.specs.Tables.{pairFillOf, templateTableAfter, sessionTableAfter};
-ghost use Rattle.pairanswers.specs.Answers.{whoseAsked, checkSeen, sheetSeen, cellsSeen, unitsSeen, answerSeen, filledSeen};
+ghost use Rattle.pair_texts.specs.Texts.{pairFetchOf, pairBufferOf, pairTextOf, pairTextBuffer};
+ghost use Rattle.pair_texts.specs.Tables.{pairFillOf, templateTableAfter, sessionTableAfter};
+ghost use Rattle.pair_answers.specs.Answers.{whoseAsked, checkSeen, sheetSeen, cellsSeen, unitsSeen, answerSeen, filledSeen};
 ghost use Rattle.station_c.specs.Answers.{newValue};
-use pairanswers::Answer;
-use pairanswers::Cells;
-use pairanswers::Check;
-use pairanswers::Filled;
-use pairanswers::Sheet;
-use pairanswers::Units;
+use pair_answers::Answer;
+use pair_answers::Cells;
+use pair_answers::Check;
+use pair_answers::Filled;
+use pair_answers::Sheet;
+use pair_answers::Units;
 
 #[no_mangle]
 pub extern "C" fn station_pair_check(template: &[u8], session: &[u8]) -> Check
     ensures { λ r. ⌜ r ≡ checkSeen (now (template .entry)) (now (session .entry)) (pairOf (now (template .entry)) (now (session .entry))) ⌝ }
 {
-    pairanswers::check_seen(template, session)
+    pair_answers::check_seen(template, session)
 }
 
 #[no_mangle]
 pub extern "C" fn station_pair_sheet(template: &[u8], session: &[u8], sheet: u32) -> Sheet
     ensures { λ r. ⌜ r ≡ sheetSeen (now (template .entry)) (now (session .entry)) (pairSheetOf (now (template .entry)) (now (session .entry)) sheet) ⌝ }
 {
-    pairanswers::sheet_seen(template, session, sheet)
+    pair_answers::sheet_seen(template, session, sheet)
 }
 
 #[no_mangle]
 pub extern "C" fn station_pair_cells(template: &[u8], session: &[u8], sheet: u32) -> Cells
     ensures { λ r. ⌜ r ≡ cellsSeen (pairCellsOf (now (template .entry)) (now (session .entry)) sheet) ⌝ }
 {
-    pairanswers::cells_seen(template, session, sheet)
+    pair_answers::cells_seen(template, session, sheet)
 }
 
 #[no_mangle]
@@ -44,7 +44,7 @@ pub extern "C" fn station_pair_fetch(
     ensures { λ r. ⌜ r ≡ unitsSeen (pairFetchOf (now (template .entry)) (now (session .entry)) (whoseAsked asked) index (now (units .entry))) ⌝ }
     ensures { λ r. ⌜ now (units .exit) ≡ pairBufferOf (now (template .entry)) (now (session .entry)) (whoseAsked asked) index (now (units .entry)) ⌝ }
 {
-    pairanswers::fetch_seen(template, session, asked, index, units)
+    pair_answers::fetch_seen(template, session, asked, index, units)
 }
 
 #[no_mangle]
@@ -59,7 +59,7 @@ pub extern "C" fn station_pair_text(
     ensures { λ r. ⌜ r ≡ unitsSeen (pairTextOf (now (template .entry)) (now (session .entry)) sheet row column (now (units .entry))) ⌝ }
     ensures { λ r. ⌜ now (units .exit) ≡ pairTextBuffer (now (template .entry)) (now (session .entry)) sheet row column (now (units .entry)) ⌝ }
 {
-    pairanswers::text_seen(template, session, sheet, row, column, units)
+    pair_answers::text_seen(template, session, sheet, row, column, units)
 }
 
 // A new value by its kind, as for `station_correct`.
@@ -79,7 +79,7 @@ pub extern "C" fn station_pair_correct(
     ensures { λ r. ⌜ now (session .exit) ≡ sessionAfter (now (session .entry)) (pairCorrectionOf (now (template .entry)) (now (session .entry)) sheet row column (newValue kind number index byte)) ⌝ }
 {
     let value = crate::new_value(kind, number, index, byte);
-    pairanswers::correct_seen(template, session, sheet, row, column, value)
+    pair_answers::correct_seen(template, session, sheet, row, column, value)
 }
 
 // The template's table, then the session's.
@@ -94,5 +94,5 @@ pub extern "C" fn station_pair_fill(
     ensures { λ r. ⌜ now (first .exit) ≡ templateTableAfter (now (template .entry)) (now (session .entry)) (now (first .entry)) (now (second .entry)) ⌝ }
     ensures { λ r. ⌜ now (second .exit) ≡ sessionTableAfter (now (template .entry)) (now (session .entry)) (now (first .entry)) (now (second .entry)) ⌝ }
 {
-    pairanswers::fill_seen(template, session, first, second)
+    pair_answers::fill_seen(template, session, first, second)
 }

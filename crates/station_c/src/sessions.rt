@@ -1,33 +1,33 @@
-// The profile and the cadence as C functions: what the crate `session` answers. The archive has the C functions of this crate alone.
+// The profile and the cadence as C functions: what the crate `session_answers` answers. The archive has the C functions of this crate alone.
 ghost use mathlib.Core.Path.{_≡_};
 ghost use Rattle.profile.specs.Profile.{profileOf};
 ghost use Rattle.cadence.specs.Cadence.{cadenceOf};
 ghost use Rattle.cadence.specs.Steps.{nextPairOf, pairsOf};
-ghost use Rattle.session.specs.Answers.{profileSeen, pairSeen, startSeen, positionOf, stepSeen};
-use session::Pair;
-use session::Pairs;
-use session::Profile;
-use session::Step;
+ghost use Rattle.session_answers.specs.Answers.{profileSeen, pairSeen, startSeen, positionOf, stepSeen};
+use session_answers::Pair;
+use session_answers::Pairs;
+use session_answers::Profile;
+use session_answers::Step;
 
 #[no_mangle]
 pub extern "C" fn station_profile(s: &[u8]) -> Profile
     ensures { λ r. ⌜ r ≡ profileSeen (profileOf (now (s .entry))) ⌝ }
 {
-    session::profile_seen(s)
+    session_answers::profile_seen(s)
 }
 
 #[no_mangle]
 pub extern "C" fn station_cadence(s: &[u8], row: u32) -> Pair
     ensures { λ r. ⌜ r ≡ pairSeen (cadenceOf (now (s .entry)) row) ⌝ }
 {
-    session::cadence_seen(s, row)
+    session_answers::cadence_seen(s, row)
 }
 
 #[no_mangle]
 pub extern "C" fn station_pairs(s: &[u8]) -> Pairs
     ensures { λ r. ⌜ r ≡ startSeen (pairsOf (now (s .entry))) ⌝ }
 {
-    session::start_seen(s)
+    session_answers::start_seen(s)
 }
 
 #[no_mangle]
@@ -43,5 +43,5 @@ pub extern "C" fn station_next_pair(
 ) -> Step
     ensures { λ r. ⌜ r ≡ stepSeen (nextPairOf (now (s .entry)) (positionOf ticks turns seconds at part level columns)) ⌝ }
 {
-    session::next_seen(s, ticks, turns, seconds, at, part, level, columns)
+    session_answers::next_seen(s, ticks, turns, seconds, at, part, level, columns)
 }

@@ -1,9 +1,9 @@
 // String places kept in a table, as C functions. The archive has the C functions of this crate alone.
 ghost use mathlib.Core.Path.{_≡_};
-ghost use Rattle.places.specs.Places.{fillOf, tableAfter, throughOf, bufferThrough};
+ghost use Rattle.string_places.specs.Places.{fillOf, tableAfter, throughOf, bufferThrough};
 ghost use Rattle.station_c.specs.Answers.{fetchSeen, tableSeen};
 use crate::Units;
-use places::Filled;
+use string_places::Filled;
 
 // Of how many strings the table has the places.
 #[repr(C)]
@@ -18,7 +18,7 @@ pub extern "C" fn station_fill(s: &[u8], table: &mut [u32]) -> FilledTable
     ensures { λ r. ⌜ r ≡ tableSeen (fillOf (now (s .entry)) 0 (now (table .entry))) ⌝ }
     ensures { λ r. ⌜ now (table .exit) ≡ tableAfter (now (s .entry)) 0 (now (table .entry)) ⌝ }
 {
-    match places::fill(s, table) {
+    match string_places::fill(s, table) {
         Filled::Strings(strings) => FilledTable {
             number: 0,
             offset: 0,
@@ -43,5 +43,5 @@ pub extern "C" fn station_fetch_through(
     ensures { λ r. ⌜ r ≡ fetchSeen (throughOf (now (s .entry)) (now (table .entry)) index (now (units .entry))) ⌝ }
     ensures { λ r. ⌜ now (units .exit) ≡ bufferThrough (now (s .entry)) (now (table .entry)) index (now (units .entry)) ⌝ }
 {
-    crate::units_of(places::fetch_through(s, table, index, units))
+    crate::units_of(string_places::fetch_through(s, table, index, units))
 }

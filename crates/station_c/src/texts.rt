@@ -1,7 +1,7 @@
 // The text results of formulas as C functions. The archive has the C functions of this crate alone.
 ghost use mathlib.Core.Path.{_≡_};
-ghost use Rattle.textresult.specs.FromPlace.{answerAt, bufferAt};
-ghost use Rattle.celltext.specs.CellText.{answerOf, bufferAfter};
+ghost use Rattle.text_result.specs.FromPlace.{answerAt, bufferAt};
+ghost use Rattle.cell_text.specs.CellText.{answerOf, bufferAfter};
 ghost use Rattle.station_c.specs.Answers.{fetchSeen};
 use crate::Units;
 
@@ -17,7 +17,7 @@ pub extern "C" fn station_text(
     ensures { λ r. ⌜ r ≡ fetchSeen (answerOf (now (s .entry)) sheet row column (now (units .entry))) ⌝ }
     ensures { λ r. ⌜ now (units .exit) ≡ bufferAfter (now (s .entry)) sheet row column (now (units .entry)) ⌝ }
 {
-    crate::units_of(celltext::fetch_cell(s, sheet, row, column, units))
+    crate::units_of(cell_text::fetch_cell(s, sheet, row, column, units))
 }
 
 // The same for a listed cell, from the place of its value field and without a check.
@@ -26,5 +26,5 @@ pub extern "C" fn station_text_at(s: &[u8], field: usize, units: &mut [u16]) -> 
     ensures { λ r. ⌜ r ≡ fetchSeen (answerAt (now (s .entry)) field (now (units .entry))) ⌝ }
     ensures { λ r. ⌜ now (units .exit) ≡ bufferAt (now (s .entry)) field (now (units .entry)) ⌝ }
 {
-    crate::units_of(textresult::text_at(s, field, units))
+    crate::units_of(text_result::text_at(s, field, units))
 }

@@ -9,8 +9,8 @@ use lib.ListN.{length, getD, drop}
 use lib.Seq.{sets, sets-eq}
 use lib.Dec.{eqb}
 use borrow.Author.Tests.{eqb-false}
-use Rattle.walk.proofs.Choice.{pick-by, pick-ne, pick-lt, pick-nlt, refl′}
-use Rattle.le.specs.Bytes.{byteAt, u16At, u32At}
+use Rattle.steps.proofs.Choice.{pick-by, pick-ne, pick-lt, pick-nlt, refl′}
+use Rattle.bytes.specs.Bytes.{byteAt, u16At, u32At}
 use Rattle.segments.specs.declared.Cursor.{Cursor}
 use Rattle.segments.specs.declared.Moved.{Moved}
 use Rattle.segments.specs.Segments.{Got, got, refused, then, push, listOf, on, filled, need, widthOf, items}

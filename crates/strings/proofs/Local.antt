@@ -8,10 +8,10 @@ use native.Mathlib.Omega.{arith}
 use lib.ListN.{length, getD, length-map, List·getD-map}
 use lib.Dec.{eqb}
 use borrow.Author.Tests.{eqb-true, ltb-false}
-use Rattle.walk.specs.Choice.{pick}
-use Rattle.walk.proofs.Choice.{pick-same, pick-any, pick-by, pick-nlt}
-use Rattle.le.specs.Bytes.{byteAt, u32At}
-use Rattle.le.proofs.Laws.{Same}
+use Rattle.steps.specs.Choice.{pick}
+use Rattle.steps.proofs.Choice.{pick-same, pick-any, pick-by, pick-nlt}
+use Rattle.bytes.specs.Bytes.{byteAt, u32At}
+use Rattle.bytes.proofs.Laws.{Same}
 use Rattle.segments.specs.declared.Cursor.{Cursor}
 use Rattle.segments.specs.Segments.{Got, got, refused, then, push, listOf, on, continues, filled, need, widthOf, items}
 use Rattle.segments.specs.Parts.{Inside}

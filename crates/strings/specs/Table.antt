@@ -4,8 +4,8 @@ use mathlib.Core.List.{List, [], _++_, map}
 use mathlib.Core.Bool.{true, false}
 use lib.ListN.{length, getD, drop}
 use lib.Dec.{ltb, eqb}
-use Rattle.walk.specs.Choice.{pick}
-use Rattle.le.specs.Bytes.{byteAt, u16At, u32At}
+use Rattle.steps.specs.Choice.{pick}
+use Rattle.bytes.specs.Bytes.{byteAt, u16At, u32At}
 use Rattle.segments.specs.declared.Cursor.{Cursor}
 use Rattle.segments.specs.Segments.{Got, got, refused, then, push, listOf, on, nextSegment, filled, need, widthOf, items}
 use Rattle.strings.specs.declared.Head.{Head}

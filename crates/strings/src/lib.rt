@@ -3,7 +3,7 @@
 ghost use mathlib.Core.Path.{_≡_};
 ghost use Prim.Native.Nat.{_+_, _≤_, _<_};
 ghost use lib.ListN.{length};
-ghost use Rattle.le.specs.Bytes.{byteAt};
+ghost use Rattle.bytes.specs.Bytes.{byteAt};
 ghost use Rattle.segments.specs.Parts.{Inside, ends, moved, Passes};
 ghost use Rattle.strings.specs.Table.{phoneticBit, richBit, headSize, runsAt, phoneticAt, headAt, startSize, head, rest, stringAt, unitsAt, nextPlace, strings, tableOf, placesOf, placeOf, unitsOf, answerOf, fetchedOf, bufferOf};
 ghost use Rattle.strings.specs.Parts.{headRead, nextString, Plain};
@@ -61,7 +61,7 @@ fn run_count(s: &[u8], p: usize, flags: u8) -> usize
     ensures { λ r. ⌜ r ≡ runsAt (now (s .entry)) p flags ⌝ }
 {
     if rich_bit(flags) == 1 {
-        return le::u16_as_usize(le::u16_at(s, p + 3));
+        return bytes::u16_as_usize(bytes::u16_at(s, p + 3));
     }
     0
 }
@@ -71,7 +71,7 @@ fn phonetic_size(s: &[u8], p: usize, flags: u8) -> usize
     ensures { λ r. ⌜ r ≡ phoneticAt (now (s .entry)) p flags ⌝ }
 {
     if phonetic_bit(flags) == 1 {
-        return le::u32_as_usize(le::u32_at(s, p + 3 + 2 * rich_bit(flags)));
+        return bytes::u32_as_usize(bytes::u32_at(s, p + 3 + 2 * rich_bit(flags)));
     }
     0
 }
@@ -83,7 +83,7 @@ fn head_at(s: &[u8], p: usize) -> Head
 {
     let flags = s[p + 2];
     Head {
-        chars: le::u16_as_usize(le::u16_at(s, p)),
+        chars: bytes::u16_as_usize(bytes::u16_at(s, p)),
         width: segments::width_of(flags),
         runs: run_count(s, p, flags),
         phonetic: phonetic_size(s, p, flags),
@@ -97,7 +97,7 @@ fn start_size(s: &[u8], p: usize) -> usize
 {
     let flags = s[p + 2];
     let size = head_size(flags);
-    if le::u16_at(s, p) == 0 {
+    if bytes::u16_at(s, p) == 0 {
         return size;
     }
     size + segments::width_of(flags)
@@ -187,7 +187,7 @@ fn plain_size(s: &[u8], c: Cursor) -> usize
     if phonetic_bit(flags) != 0 {
         return 0;
     }
-    let size = 3 + le::u16_as_usize(le::u16_at(s, c.at));
+    let size = 3 + bytes::u16_as_usize(bytes::u16_at(s, c.at));
     if here < size {
         return 0;
     }
@@ -247,10 +247,10 @@ pub fn check_strings(s: &[u8], p: usize, e: usize) -> Strings
             offset: p,
         };
     }
-    let unique = le::u32_at(s, p + 8);
+    let unique = bytes::u32_at(s, p + 8);
     match skip_strings(
         s,
-        le::u32_as_usize(unique),
+        bytes::u32_as_usize(unique),
         Cursor {
             seg: p,
             at: p + 12,
@@ -258,7 +258,7 @@ pub fn check_strings(s: &[u8], p: usize, e: usize) -> Strings
         },
     ) {
         Moved::Refused { number, offset } => Strings::Refused { number, offset },
-        Moved::To(d) => match segments::fills(s, 8, d) {
+        Moved::To(d) => match segments::ends_with_segments(s, 8, d) {
             Moved::Refused { number, offset } => Strings::Refused { number, offset },
             Moved::To(g) => Strings::Table {
                 strings: unique,

@@ -7,10 +7,10 @@ use native.Mathlib.Omega.{arith}
 use lib.ListN.{length}
 use lib.Dec.{leb, eqb}
 use borrow.Author.Tests.{eq-eqb, ne-eqb, eqb-true, leb-true}
-use Rattle.walk.specs.Choice.{pick}
-use Rattle.walk.proofs.Choice.{never, pick-any, pick-by, pick-eq, pick-ne, pick-true, pick-false}
-use Rattle.walk.specs.Walk.{Next, more, stop}
-use Rattle.walk.proofs.Walk.{run-more, run-stop, run-keeps}
+use Rattle.steps.specs.Choice.{pick}
+use Rattle.steps.proofs.Choice.{never, pick-any, pick-by, pick-eq, pick-ne, pick-true, pick-false}
+use Rattle.steps.specs.Walk.{Next, more, stop}
+use Rattle.steps.proofs.Walk.{run-more, run-stop, run-keeps}
 use Rattle.record.specs.declared.Header.{Header}
 use Rattle.record.specs.declared.Header.the-variants.{Record, Cut, End}
 use Rattle.record.specs.Record.{headerAt}
@@ -22,16 +22,16 @@ use Rattle.cell.specs.Cells.{shapeOf, lengthAt, countOf, judged as judgedOf, ju
 use Rattle.cell.specs.Parts.{formulaSized}
 use Rattle.cell.proofs.Sizes.{formula-shape}
 use Rattle.cell.proofs.Judging.{formula-unsized, result-room, formula-value, formula-passed}
-use Rattle.le.specs.Bytes.{u64At}
+use Rattle.bytes.specs.Bytes.{u64At}
 use Rattle.value.specs.Value.{resultOf, markedFits, resultFits}
 use Rattle.segments.specs.declared.Cursor.{Cursor}
 use Rattle.segments.specs.declared.Moved.{Moved}
 use Rattle.segments.specs.Segments.{Got, got, refused}
 use Rattle.segments.specs.Parts.{ends, moved}
 use Rattle.segments.proofs.Local.{refused-not}
-use Rattle.textresult.specs.TextResult.{isText, hasText, textOf}
-use Rattle.textresult.proofs.Laws.{text-number, text-marked}
-use Rattle.textresult.proofs.Local.{text-ahead}
+use Rattle.text_result.specs.TextResult.{isText, hasText, textOf}
+use Rattle.text_result.proofs.Laws.{text-number, text-marked}
+use Rattle.text_result.proofs.Local.{text-ahead}
 use Rattle.substream.specs.declared.Here.{Here}
 use Rattle.substream.specs.declared.Step.{Step}
 use Rattle.substream.specs.declared.Step.the-variants.{More, Open, Close, Stop}

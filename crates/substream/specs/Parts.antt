@@ -1,11 +1,11 @@
 -- What only inner promises cite.
 use Prim.Native.Nat.{ℕ}
 use mathlib.Core.List.{List}
-use Rattle.walk.specs.Choice.{pick}
+use Rattle.steps.specs.Choice.{pick}
 use Rattle.cell.specs.declared.Shape.the-variants.{FORMULA}
 use Rattle.cell.specs.Cells.{judged}
 use Rattle.value.specs.Value.{resultOf, resultFits}
-use Rattle.textresult.specs.TextResult.{isText, textOf}
+use Rattle.text_result.specs.TextResult.{isText, textOf}
 use Rattle.substream.specs.declared.Here.{Here}
 use Rattle.substream.specs.declared.Step.{Step}
 use Rattle.substream.specs.declared.Step.the-variants.{More, Stop}

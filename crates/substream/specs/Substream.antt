@@ -4,9 +4,9 @@ use mathlib.Core.List.{List}
 use mathlib.Core.Bool.{Bool, true, false}
 use lib.ListN.{length}
 use lib.Dec.{leb, eqb}
-use Rattle.walk.specs.Choice.{pick}
-use Rattle.walk.specs.Walk.{Next, more, stop, run}
-use Rattle.le.specs.Bytes.{u16At, u32At}
+use Rattle.steps.specs.Choice.{pick}
+use Rattle.steps.specs.Walk.{Next, more, stop, run}
+use Rattle.bytes.specs.Bytes.{u16At, u32At}
 use Rattle.record.specs.declared.Header.{Header}
 use Rattle.record.specs.declared.Header.the-variants.{Record, Cut, End}
 use Rattle.record.specs.Record.{headerAt}
@@ -14,7 +14,7 @@ use Rattle.cell.specs.declared.Judged.{Judged}
 use Rattle.cell.specs.declared.Judged.the-variants as judged
 use Rattle.cell.specs.Cells.{shapeOf, judgeOf}
 use Rattle.segments.specs.Segments.{Got, got, refused}
-use Rattle.textresult.specs.TextResult.{hasText, textOf}
+use Rattle.text_result.specs.TextResult.{hasText, textOf}
 use Rattle.substream.specs.declared.Here.{Here}
 use Rattle.substream.specs.declared.Step.{Step}
 use Rattle.substream.specs.declared.Step.the-variants.{More, Open, Close, Stop}

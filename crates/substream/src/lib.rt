@@ -3,7 +3,7 @@
 ghost use mathlib.Core.Path.{_≡_};
 ghost use Prim.Native.Nat.{_+_, _≤_};
 ghost use lib.ListN.{length};
-ghost use Rattle.textresult.specs.TextResult.{textOf};
+ghost use Rattle.text_result.specs.TextResult.{textOf};
 ghost use Rattle.substream.specs.Substream.{innerBof, otherRecord, dimensionsFit, dimensionsRecord, onText, recordIn, stepOf, substreamIn};
 ghost use Rattle.substream.specs.Parts.{resultRecord, formulaRecord};
 use cell::Judged;
@@ -46,7 +46,7 @@ fn inner_bof(s: &[u8], kind: u16, at: usize, size: usize) -> Step
             offset: at,
         };
     }
-    if le::u16_at(s, at + 6) == 0x0020 {
+    if bytes::u16_at(s, at + 6) == 0x0020 {
         return Step::Open(at);
     }
     Step::Stop {
@@ -97,16 +97,16 @@ fn dimensions_fit(s: &[u8], at: usize, size: usize) -> bool
     if size != 14 {
         return false;
     }
-    if 65535 < le::u32_at(s, at + 4) {
+    if 65535 < bytes::u32_at(s, at + 4) {
         return false;
     }
-    if 65536 < le::u32_at(s, at + 8) {
+    if 65536 < bytes::u32_at(s, at + 8) {
         return false;
     }
-    if 255 < le::u16_at(s, at + 12) {
+    if 255 < bytes::u16_at(s, at + 12) {
         return false;
     }
-    if 256 < le::u16_at(s, at + 14) {
+    if 256 < bytes::u16_at(s, at + 14) {
         return false;
     }
     true
@@ -133,7 +133,7 @@ fn text_record(s: &[u8], at: usize, end: usize) -> Step
     requires { ⌜ end ≤ length (now s) ⌝ }
     ensures { λ r. ⌜ r ≡ onText (textOf (now (s .entry)) at end) ⌝ }
 {
-    match textresult::check_text(s, at, end) {
+    match text_result::check_text(s, at, end) {
         Moved::To(c) => Step::More(Here {
             at: c.end,
             orphan: false,
@@ -174,7 +174,7 @@ fn formula_record(s: &[u8], v: Here, size: usize, end: usize) -> Step
 {
     let at = v.at;
     if cell::formula_sized(s, at, size) {
-        let n = le::u64_at(s, at + 10);
+        let n = bytes::u64_at(s, at + 10);
         return result_record(s, at, end, n);
     }
     Step::Stop {
@@ -255,7 +255,7 @@ pub fn walk(s: &[u8], kind: u16, unique: u32, from: usize, allowance: u8) -> End
             offset: from,
         };
     }
-    if le::u16_at(s, from + 4) != 0x0600 {
+    if bytes::u16_at(s, from + 4) != 0x0600 {
         return Ended::Refused {
             number: 6,
             offset: from,

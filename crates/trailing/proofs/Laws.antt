@@ -12,8 +12,8 @@ use lib.Bits.{bitAnd, and-mask}
 use lib.Dec.{ltb}
 use lib.ListN.{length, take, drop, length-drop}
 use lib.Seq.{take-all}
-use Rattle.walk.proofs.Choice.{pick-true, pick-false, pick-nlt, picks, pick-by, pick-any}
-use Rattle.le.specs.Bytes.{byteAt, u16At}
+use Rattle.steps.proofs.Choice.{pick-true, pick-false, pick-nlt, picks, pick-by, pick-any}
+use Rattle.bytes.specs.Bytes.{byteAt, u16At}
 use Rattle.trailing.specs.declared.Data.{Data}
 use Rattle.trailing.specs.declared.Data.the-variants.{Takes, Bad}
 use Rattle.trailing.specs.Trailing.{uncut, sizedOf, textOf, truthOf, errorOf, elementBy, elementOf, after, elementsOf, arrayOf, areasOf}

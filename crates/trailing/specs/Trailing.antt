@@ -4,9 +4,9 @@ use Prim.Native.Nat.{ℕ, zero, suc, _+_, _*_, _%_}
 use mathlib.Core.List.{List}
 use lib.Dec.{ltb, eqb}
 use lib.ListN.{length, drop}
-use Rattle.walk.specs.Choice.{pick}
-use Rattle.le.specs.Bytes.{byteAt, u16At}
-use Rattle.boolerr.specs.Boolerr.{isTruth, isError}
+use Rattle.steps.specs.Choice.{pick}
+use Rattle.bytes.specs.Bytes.{byteAt, u16At}
+use Rattle.truth_error.specs.Boolerr.{isTruth, isError}
 use Rattle.trailing.specs.declared.Data.{Data}
 use Rattle.trailing.specs.declared.Data.the-variants.{Takes, Bad}
 

@@ -27,7 +27,7 @@ fn text(t: &[u8]) -> Data
     if t.len() < 4 {
         return Data::Bad;
     }
-    let count = le::u16_as_usize(le::u16_at(t, 1));
+    let count = bytes::u16_as_usize(bytes::u16_at(t, 1));
     if t[3] & 1 == 0 {
         return sized(4 + count, t);
     }
@@ -41,7 +41,7 @@ fn truth(t: &[u8]) -> Data
     if t.len() < 9 {
         return Data::Bad;
     }
-    if boolerr::is_truth(t[1]) {
+    if truth_error::is_truth(t[1]) {
         return Data::Takes(9);
     }
     Data::Bad
@@ -54,7 +54,7 @@ fn error(t: &[u8]) -> Data
     if t.len() < 9 {
         return Data::Bad;
     }
-    if boolerr::is_error(t[1]) {
+    if truth_error::is_error(t[1]) {
         return Data::Takes(9);
     }
     Data::Bad
@@ -107,8 +107,8 @@ pub fn array(t: &[u8]) -> Data
     if t.len() < 3 {
         return Data::Bad;
     }
-    let columns = le::byte_as_usize(t[0]) + 1;
-    let rows = le::u16_as_usize(le::u16_at(t, 1)) + 1;
+    let columns = bytes::byte_as_usize(t[0]) + 1;
+    let rows = bytes::u16_as_usize(bytes::u16_at(t, 1)) + 1;
     elements(columns * rows, t)
 }
 
@@ -119,5 +119,5 @@ pub fn areas(t: &[u8]) -> Data
     if t.len() < 2 {
         return Data::Bad;
     }
-    sized(2 + 8 * le::u16_as_usize(le::u16_at(t, 0)), t)
+    sized(2 + 8 * bytes::u16_as_usize(bytes::u16_at(t, 0)), t)
 }

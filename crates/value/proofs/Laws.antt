@@ -4,8 +4,8 @@ use mathlib.Core.Path.{_≡_, refl, sym, ap, ap₂, _∙_}
 use mathlib.Core.Bool.{Bool, true, false}
 use native.Mathlib.Omega.{arith}
 use lib.Ieee.{Float, binary64, ofBits}
-use Rattle.walk.proofs.Choice.{pick-true, pick-false, pick-eq, pick-ne}
-use Rattle.boolerr.specs.Boolerr.{isTruth, isError}
+use Rattle.steps.proofs.Choice.{pick-true, pick-false, pick-eq, pick-ne}
+use Rattle.truth_error.specs.Boolerr.{isTruth, isError}
 use Rattle.number.specs.Float64.{isNanBits}
 use Rattle.number.specs.Rk.{rkOf}
 use Rattle.number.proofs.Laws.{nan-told}

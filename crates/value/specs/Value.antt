@@ -3,8 +3,8 @@ use Prim.Native.Nat.{ℕ, _/_, _%_, _^_}
 use mathlib.Core.Bool.{Bool, true, false, not}
 use lib.Dec.{ltb, eqb}
 use lib.Ieee.{binary64, ofBits}
-use Rattle.walk.specs.Choice.{pick}
-use Rattle.boolerr.specs.Boolerr.{isTruth, isError}
+use Rattle.steps.specs.Choice.{pick}
+use Rattle.truth_error.specs.Boolerr.{isTruth, isError}
 use Rattle.number.specs.Float64.{isNanBits, bitsOf}
 use Rattle.number.specs.Rk.{meansNothing, rkOf}
 use Rattle.number.specs.declared.Rk.{Rk}

@@ -124,8 +124,8 @@ pub fn truth_error_fits(n: u16) -> bool
     ensures { λ r. ⌜ r ≡ valueFits Field.TruthError n ⌝ }
 {
     match n >> 8 {
-        0 => boolerr::is_truth(u16_first_byte(n)),
-        1 => boolerr::is_error(u16_first_byte(n)),
+        0 => truth_error::is_truth(u16_first_byte(n)),
+        1 => truth_error::is_error(u16_first_byte(n)),
         _ => false,
     }
 }
@@ -135,8 +135,8 @@ fn marked_fits(kind: u8, byte: u8) -> bool
 {
     match kind {
         0 => true,
-        1 => boolerr::is_truth(byte),
-        2 => boolerr::is_error(byte),
+        1 => truth_error::is_truth(byte),
+        2 => truth_error::is_error(byte),
         3 => true,
         _ => false,
     }

@@ -7,9 +7,9 @@ use native.Mathlib.Numerals.{add-one}
 use lib.ListN.{length}
 use lib.Dec.{ltb}
 use borrow.Author.Tests.{ltb-false}
-use Rattle.walk.proofs.Choice.{pick-by, pick-lt, pick-nlt}
-use Rattle.sheetlist.specs.declared.Agreement.{Agreement}
-use Rattle.sheetlist.specs.Agreement.{agreementOf}
+use Rattle.steps.proofs.Choice.{pick-by, pick-lt, pick-nlt}
+use Rattle.sheet_agreement.specs.declared.Agreement.{Agreement}
+use Rattle.sheet_agreement.specs.Agreement.{agreementOf}
 use Rattle.globals.specs.declared.Globals.{Globals}
 use Rattle.globals.specs.declared.Bound.{Bound}
 use Rattle.globals.specs.declared.Bound.the-variants as bound
@@ -18,11 +18,11 @@ use Rattle.globals.specs.declared.Ended.the-variants as globals
 use Rattle.globals.specs.Globals.{globalsOf}
 use Rattle.globals.specs.Sheets.{boundAt, sheetsFrom, sheetsOf}
 use Rattle.globals.proofs.Sheets.{sheets-done, sheets-skip, sheets-more, sheets-less, skip-less}
-use Rattle.toplevel.specs.TopLevel.{bofsFrom}
-use Rattle.sheets.specs.declared.Tail.{Tail}
-use Rattle.sheets.specs.declared.Tail.the-variants as tail
-use Rattle.sheets.specs.Tops.{tailOf}
-use Rattle.sheets.proofs.Following.{Tailed, tail-says}
+use Rattle.top_level.specs.TopLevel.{bofsFrom}
+use Rattle.top_level.specs.declared.Tail.{Tail}
+use Rattle.top_level.specs.declared.Tail.the-variants as tail
+use Rattle.top_level.specs.Tops.{tailOf}
+use Rattle.top_level.proofs.Following.{Tailed, tail-says}
 use Rattle.workbook.specs.declared.Checked.{Checked}
 use Rattle.workbook.specs.declared.Checked.the-variants.{Right, Wrong}
 use Rattle.workbook.specs.declared.Answer.{Answer}

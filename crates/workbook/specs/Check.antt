@@ -3,18 +3,18 @@ use Prim.Native.Nat.{ℕ}
 use mathlib.Core.List.{List}
 use lib.ListN.{length}
 use lib.Dec.{ltb}
-use Rattle.walk.specs.Choice.{pick}
-use Rattle.sheetlist.specs.declared.Agreement.{Agreement}
-use Rattle.sheetlist.specs.declared.Agreement.the-variants.{Agree, Disagree}
-use Rattle.sheetlist.specs.Agreement.{agreementOf}
+use Rattle.steps.specs.Choice.{pick}
+use Rattle.sheet_agreement.specs.declared.Agreement.{Agreement}
+use Rattle.sheet_agreement.specs.declared.Agreement.the-variants.{Agree, Disagree}
+use Rattle.sheet_agreement.specs.Agreement.{agreementOf}
 use Rattle.globals.specs.declared.Globals.{Globals}
 use Rattle.globals.specs.declared.Ended.{Ended}
 use Rattle.globals.specs.declared.Ended.the-variants as globals
 use Rattle.globals.specs.Globals.{globalsOf}
 use Rattle.globals.specs.Sheets.{sheetsOf}
-use Rattle.toplevel.specs.declared.Walked.{Walked}
-use Rattle.toplevel.specs.declared.Walked.the-variants as walked
-use Rattle.toplevel.specs.TopLevel.{topsFrom, bofsFrom}
+use Rattle.top_level.specs.declared.Walked.{Walked}
+use Rattle.top_level.specs.declared.Walked.the-variants as walked
+use Rattle.top_level.specs.TopLevel.{topsFrom, bofsFrom}
 use Rattle.workbook.specs.declared.Checked.{Checked}
 use Rattle.workbook.specs.declared.Checked.the-variants.{Right, Wrong}
 use Rattle.workbook.specs.declared.Answer.{Answer}

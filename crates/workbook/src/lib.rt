@@ -6,8 +6,8 @@ ghost use Rattle.workbook.specs.Check.{checkedOf, checkOf};
 use globals::Bound;
 use globals::Ended;
 use globals::Globals;
-use sheetlist::Agreement;
-use sheets::Tail;
+use sheet_agreement::Agreement;
+use top_level::Tail;
 
 // What the globals of a stream that passes hold, or the refusal's number and offset.
 pub enum Checked {
@@ -36,9 +36,9 @@ pub fn check_with(s: &[u8], unique: u32) -> Checked
         Ended::At(g) => {
             let from = g.at;
             let strings = g.unique;
-            match sheets::tops(s, strings, from) {
+            match top_level::walk_top_level(s, strings, from) {
                 Tail::Refused { number, offset } => Checked::Wrong { number, offset },
-                Tail::Passed(p) => match sheets::settled(s, strings, from, p) {
+                Tail::Passed(p) => match top_level::sheet_list_agreement(s, strings, from, p) {
                     Agreement::Disagree(offset) => Checked::Wrong { number: 10, offset },
                     Agreement::Agree => Checked::Right(g),
                 },
@@ -54,7 +54,7 @@ pub fn sheet_count(s: &[u8]) -> usize
     let mut n: usize = 0;
     let mut p: usize = 20;
     loop {
-        match globals::bound_at(s, p) {
+        match globals::boundsheet_at(s, p) {
             Bound::Sheet {
                 header: _,
                 position: _,

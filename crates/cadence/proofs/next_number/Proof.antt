@@ -7,7 +7,7 @@ pub next-number-spec : {M : Type 1} → statement M
 next-number-spec =
     tie.close
     (tie.spec
-    -- next-placed-requires
+    -- next-with-record-requires
     (λ c κs. search needs)
     -- enum-known-cell
     (λ c. search needs)

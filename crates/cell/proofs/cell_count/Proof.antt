@@ -1,7 +1,7 @@
 use Rattle.cell.proofs.Counting.{count-typed}
 use Rattle.cell.specs.Cells.{shapeOf}
-use Rattle.walk.specs.Choice.{pick}
-use Rattle.walk.proofs.Choice.{tests}
+use Rattle.steps.specs.Choice.{pick}
+use Rattle.steps.proofs.Choice.{tests}
 use borrow.Author.Needs.{needs}
 use Rattle.cell.proofs.cell_count.Statement.{statement}
 use Rattle.cell.proofs.cell_count.Tie as tie
@@ -21,9 +21,9 @@ cell-count-spec =
     (λ c κs. search needs)
     -- one-cell-requires-5
     (λ c κs. search needs)
-    -- multiple-requires
+    -- multiple-count-requires
     (λ c κs. search needs)
-    -- multiple-requires-2
+    -- multiple-count-requires-2
     (λ c κs. search needs)
     -- formula-cells-requires
     (λ c κs. search needs)

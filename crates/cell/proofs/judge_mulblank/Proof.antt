@@ -7,7 +7,7 @@ pub judge-mulblank-spec : {M : Type 1} → statement M
 judge-mulblank-spec =
     tie.close
     (tie.spec
-    -- multiple-requires
+    -- multiple-count-requires
     (λ c κs. search needs)
     -- wrong-requires
     (λ c κs. search needs)

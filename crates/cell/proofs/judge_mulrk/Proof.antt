@@ -7,7 +7,7 @@ pub judge-mulrk-spec : {M : Type 1} → statement M
 judge-mulrk-spec =
     tie.close
     (tie.spec
-    -- multiple-requires
+    -- multiple-count-requires
     (λ c κs. search needs)
     -- wrong-requires
     (λ c κs. search needs)

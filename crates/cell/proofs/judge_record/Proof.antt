@@ -1,7 +1,7 @@
-use Rattle.walk.proofs.Choice.{tests}
+use Rattle.steps.proofs.Choice.{tests}
 use Rattle.cell.proofs.Judging.{typed}
 use Rattle.cell.specs.Cells.{shapeOf, judged, judgeOf}
-use Rattle.walk.specs.Choice.{pick}
+use Rattle.steps.specs.Choice.{pick}
 use borrow.Author.Needs.{needs}
 use Rattle.cell.proofs.judge_record.Statement.{statement}
 use Rattle.cell.proofs.judge_record.Tie as tie

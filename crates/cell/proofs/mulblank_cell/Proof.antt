@@ -7,7 +7,7 @@ pub mulblank-cell-spec : {M : Type 1} → statement M
 mulblank-cell-spec =
     tie.close
     (tie.spec
-    -- multiple-requires
+    -- multiple-count-requires
     (λ c κs. search needs)
     -- returns
     (λ c. search finding-many)

@@ -7,7 +7,7 @@ pub mulrk-cell-spec : {M : Type 1} → statement M
 mulrk-cell-spec =
     tie.close
     (tie.spec
-    -- multiple-requires
+    -- multiple-count-requires
     (λ c κs. search needs)
     -- returns
     (λ c. search finding-many)

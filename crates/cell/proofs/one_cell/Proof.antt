@@ -1,4 +1,4 @@
-use Rattle.walk.proofs.Choice.{picks}
+use Rattle.steps.proofs.Choice.{picks}
 use Rattle.cell.specs.Cells.{sized}
 use Rattle.cell.proofs.one_cell.Statement.{statement}
 use Rattle.cell.proofs.one_cell.Tie as tie

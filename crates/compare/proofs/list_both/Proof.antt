@@ -1,4 +1,4 @@
-use Rattle.addresses.proofs.Laws.{when-asked}
+use Rattle.cell_addresses.proofs.Laws.{when-asked}
 use native.Mathlib.Omega.{arith}
 use borrow.Author.Needs.{needs}
 use Rattle.compare.proofs.list_both.Statement.{statement}

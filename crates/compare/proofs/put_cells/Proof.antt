@@ -1,4 +1,4 @@
-use Rattle.addresses.proofs.Laws.{when-asked}
+use Rattle.cell_addresses.proofs.Laws.{when-asked}
 use Rattle.compare.proofs.Laws.{seen-from, seen-none, to-are, puts-are, none-at-all}
 use borrow.Author.Needs.{needs}
 use Rattle.compare.proofs.put_cells.Statement.{statement}

@@ -8,7 +8,7 @@ pub correct-in-spec : {M : Type 1} → statement M
 correct-in-spec =
     tie.close
     (tie.spec
-    -- aim-in-requires
+    -- cell-of-address-requires
     (λ c κs. search needs)
     -- enum-known-number
     (λ c. search needs)

@@ -1,6 +1,6 @@
-use Rattle.walk.proofs.Choice.{tests}
+use Rattle.steps.proofs.Choice.{tests}
 use Rattle.cell.specs.Cells.{shapeOf}
-use Rattle.walk.specs.Choice.{pick}
+use Rattle.steps.specs.Choice.{pick}
 use Rattle.correction.proofs.field_kind.Statement.{statement}
 use Rattle.correction.proofs.field_kind.Tie as tie
 

@@ -21,7 +21,7 @@ find-spec =
     (λ c κs. search (find-laws, needs))
     -- enum-known-id
     (λ c. search needs)
-    -- met-requires
+    -- with-cell-requires
     (λ c κs. search (find-laws, needs))
     -- loop-less
     (λ c. search (find-laws, needs))

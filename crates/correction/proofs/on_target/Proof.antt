@@ -1,5 +1,5 @@
 use Rattle.correction.proofs.Laws.{by-target}
-use Rattle.walk.proofs.Choice.{refl′}
+use Rattle.steps.proofs.Choice.{refl′}
 use borrow.Author.Needs.{needs}
 use Rattle.correction.proofs.on_target.Statement.{statement}
 use Rattle.correction.proofs.on_target.Tie as tie

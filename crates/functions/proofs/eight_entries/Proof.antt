@@ -1,6 +1,6 @@
 -- The table's words are the entries of every index, as antt computes them from the definition.
 use mathlib.Core.Path.{refl}
-use Rattle.walk.specs.Choice.{pick}
+use Rattle.steps.specs.Choice.{pick}
 use Rattle.functions.specs.Counts.{functions, countsOf}
 use Rattle.functions.specs.Parts.{entriesFrom}
 use Rattle.functions.proofs.Laws.{group-listed, group-past}

@@ -1,6 +1,6 @@
 use borrow.Author.Needs.{needs}
 use Rattle.globals.specs.Globals.{bofRecord}
-use Rattle.walk.proofs.Choice.{picks-told}
+use Rattle.steps.proofs.Choice.{picks-told}
 use Rattle.globals.proofs.bof_record.Statement.{statement}
 use Rattle.globals.proofs.bof_record.Tie as tie
 

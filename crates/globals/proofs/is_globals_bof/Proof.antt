@@ -1,5 +1,5 @@
 use Rattle.globals.specs.Globals.{isGlobalsBof}
-use Rattle.walk.proofs.Choice.{picks-told}
+use Rattle.steps.proofs.Choice.{picks-told}
 use borrow.Author.Needs.{needs}
 use Rattle.globals.proofs.is_globals_bof.Statement.{statement}
 use Rattle.globals.proofs.is_globals_bof.Tie as tie

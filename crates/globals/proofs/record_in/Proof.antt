@@ -1,6 +1,6 @@
-use Rattle.walk.proofs.Choice.{tests}
+use Rattle.steps.proofs.Choice.{tests}
 use Rattle.globals.specs.Globals.{recordIn}
-use Rattle.walk.specs.Choice.{pick}
+use Rattle.steps.specs.Choice.{pick}
 use borrow.Author.Needs.{needs}
 use Rattle.globals.proofs.record_in.Statement.{statement}
 use Rattle.globals.proofs.record_in.Tie as tie

@@ -1,5 +1,5 @@
 use Rattle.globals.specs.Globals.{sheetFits}
-use Rattle.walk.proofs.Choice.{picks-told}
+use Rattle.steps.proofs.Choice.{picks-told}
 use borrow.Author.Needs.{needs}
 use Rattle.globals.proofs.sheet_fits.Statement.{statement}
 use Rattle.globals.proofs.sheet_fits.Tie as tie

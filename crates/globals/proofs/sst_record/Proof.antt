@@ -1,5 +1,5 @@
 use Rattle.globals.proofs.Laws.{answers}
-use Rattle.walk.proofs.Choice.{picks-told}
+use Rattle.steps.proofs.Choice.{picks-told}
 use borrow.Author.Needs.{needs}
 use Rattle.globals.proofs.sst_record.Statement.{statement}
 use Rattle.globals.proofs.sst_record.Tie as tie

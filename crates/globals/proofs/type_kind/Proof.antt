@@ -1,6 +1,6 @@
-use Rattle.walk.proofs.Choice.{tests}
+use Rattle.steps.proofs.Choice.{tests}
 use Rattle.globals.specs.Sheets.{typeKind}
-use Rattle.walk.specs.Choice.{pick}
+use Rattle.steps.specs.Choice.{pick}
 use Rattle.globals.proofs.type_kind.Statement.{statement}
 use Rattle.globals.proofs.type_kind.Tie as tie
 

@@ -1,5 +1,5 @@
 use Rattle.globals.proofs.Laws.{answers, first-within}
-use Rattle.walk.proofs.Choice.{picks-told}
+use Rattle.steps.proofs.Choice.{picks-told}
 use Rattle.globals.specs.Globals.{opened}
 use borrow.Author.Needs.{needs}
 use Rattle.globals.proofs.walk.Statement.{statement}

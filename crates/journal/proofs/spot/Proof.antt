@@ -9,7 +9,7 @@ spot-spec =
     (tie.spec
     -- journal-fits-requires
     (λ c κs. search needs)
-    -- aim-in-requires
+    -- cell-of-address-requires
     (λ c κs. search needs)
     -- room-for-requires
     (λ c κs. search (spot-laws, needs))

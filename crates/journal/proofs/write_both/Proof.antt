@@ -20,12 +20,12 @@ number-of-requires : tie.Need-number-of-requires
 number-of-requires c κs = search needs
 
 -- src/lib.rt:160:5
-log-requires : tie.Need-log-requires
-log-requires c κs = search (both-laws, needs)
+append-entry-requires : tie.Need-append-entry-requires
+append-entry-requires c κs = search (both-laws, needs)
 
 -- src/lib.rt:170:5
-put-requires : tie.Need-put-requires
-put-requires c κs = search needs
+store-requires : tie.Need-store-requires
+store-requires c κs = search needs
 
 -- src/lib.rt:143:1
 same-length : tie.Need-same-length
@@ -47,8 +47,8 @@ write-both-spec =
     field-number-requires
     kind-of-requires
     number-of-requires
-    log-requires
-    put-requires
+    append-entry-requires
+    store-requires
     same-length
     same-length-2
     returns)

@@ -1,4 +1,4 @@
-use Rattle.walk.proofs.Choice.{never}
+use Rattle.steps.proofs.Choice.{never}
 use borrow.Author.Needs.{needs}
 use Rattle.leading.proofs.idle.Statement.{statement}
 use Rattle.leading.proofs.idle.Tie as tie

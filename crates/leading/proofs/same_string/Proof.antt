@@ -1,4 +1,4 @@
-use Rattle.characters.proofs.TextResults.{read-same}
+use Rattle.text_equality.proofs.TextResults.{read-same}
 use borrow.Author.Needs.{needs}
 use Rattle.leading.proofs.same_string.Statement.{statement}
 use Rattle.leading.proofs.same_string.Tie as tie

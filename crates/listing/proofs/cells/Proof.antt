@@ -17,7 +17,7 @@ cells-spec =
     (λ c κs. search needs)
     -- enum-known-position
     (λ c. search needs)
-    -- start-of-requires
+    -- first-place-requires
     (λ c κs. search needs)
     -- enum-told-2
     (λ c. search needs)

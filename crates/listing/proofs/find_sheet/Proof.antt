@@ -3,7 +3,7 @@ use Rattle.listing.proofs.Laws.{sought-laws}
 use mathlib.Core.Path.{_≡_}
 use Prim.Native.Nat.{_-_}
 use lib.ListN.{length}
-use Rattle.walk.specs.Items.{nth}
+use Rattle.steps.specs.Items.{nth}
 use Rattle.globals.specs.Sheets.{sheetsFrom, sheetsOf}
 use Rattle.listing.specs.Parts.{foundSheet}
 use Rattle.listing.specs.declared.Sought.the-variants.{Absent}
@@ -22,7 +22,7 @@ find-sheet-spec =
     (tie.spec Inv-loop μ-loop
     -- loop-holds
     (λ c. search (sought-laws, needs))
-    -- bound-at-requires
+    -- boundsheet-at-requires
     (λ c κs. search (sought-laws, needs))
     -- enum-known-header
     (λ c. search needs)

@@ -18,7 +18,7 @@ next-cell-spec =
     (tie.spec Inv-loop μ-loop
     -- loop-holds
     (λ c. search (next-laws, needs))
-    -- cell-item-requires
+    -- step-at-requires
     (λ c κs. search (next-laws, needs))
     -- enum-known-cell
     (λ c. search needs)

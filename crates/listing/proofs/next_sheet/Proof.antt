@@ -19,7 +19,7 @@ next-sheet-spec =
     (tie.spec Inv-loop μ-loop
     -- loop-holds
     (λ c. search (sheet-laws, needs))
-    -- bound-at-requires
+    -- boundsheet-at-requires
     (λ c κs. search (sheet-laws, needs))
     -- enum-known-header
     (λ c. search needs)
@@ -27,7 +27,7 @@ next-sheet-spec =
     (λ c κs. search (sheet-laws, needs))
     -- width-at-requires
     (λ c κs. search (sheet-laws, needs))
-    -- start-of-requires
+    -- first-place-requires
     (λ c κs. search (sheet-laws, needs))
     -- returns
     (λ c. search (sheet-laws, needs))

@@ -1,4 +1,4 @@
-use Rattle.walk.proofs.Choice.{refl′}
+use Rattle.steps.proofs.Choice.{refl′}
 use Rattle.listing.proofs.Laws.{by-outside}
 use borrow.Author.Needs.{needs}
 use Rattle.listing.proofs.other_item.Statement.{statement}

@@ -21,7 +21,7 @@ sheet-spec =
     (λ c κs. search sought-room)
     -- width-at-requires
     (λ c κs. search sought-room)
-    -- start-of-requires
+    -- first-place-requires
     (λ c κs. search needs)
     -- rows-requires
     (λ c κs. search needs)

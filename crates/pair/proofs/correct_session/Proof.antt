@@ -1,5 +1,5 @@
 use Rattle.pair.proofs.Correcting.{session-answer, session-stream}
-use Rattle.walk.proofs.Choice.{refl′}
+use Rattle.steps.proofs.Choice.{refl′}
 use borrow.Author.Needs.{needs}
 use Rattle.pair.proofs.correct_session.Statement.{statement}
 use Rattle.pair.proofs.correct_session.Tie as tie

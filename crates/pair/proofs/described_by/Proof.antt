@@ -17,7 +17,7 @@ described-by-spec =
     (λ c. search needs)
     -- width-of-requires
     (λ c κs. search needs)
-    -- start-of-requires
+    -- first-place-requires
     (λ c κs. search needs)
     -- rows-requires
     (λ c κs. search needs)

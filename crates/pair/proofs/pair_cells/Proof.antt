@@ -15,15 +15,15 @@ pair-cells-spec =
     (λ c κs. search needs)
     -- enum-told
     (λ c. search needs)
-    -- find-requires
+    -- whose-sheet-requires
     (λ c κs. search needs)
     -- enum-known-position
     (λ c. search needs)
-    -- start-of-requires
+    -- first-place-requires
     (λ c κs. search needs)
     -- enum-known-position-2
     (λ c. search needs)
-    -- start-of-requires-2
+    -- first-place-requires-2
     (λ c κs. search needs)
     -- enum-told-2
     (λ c. search needs)

@@ -15,7 +15,7 @@ pair-sheet-spec =
     (λ c κs. search needs)
     -- enum-told
     (λ c. search needs)
-    -- find-requires
+    -- whose-sheet-requires
     (λ c κs. search needs)
     -- enum-known-header
     (λ c. search needs)

@@ -19,7 +19,7 @@ pair-sheet-name-spec =
     (λ c. search needs)
     -- enum-told-2
     (λ c. search needs)
-    -- find-requires
+    -- whose-sheet-requires
     (λ c κs. search needs)
     -- enum-known-header
     (λ c. search needs)

@@ -7,7 +7,7 @@ pub columns-spec : {M : Type 1} → statement M
 columns-spec =
     tie.close
     (tie.spec
-    -- next-placed-requires
+    -- next-with-record-requires
     (λ c κs. search needs)
     -- enum-known-second
     (λ c. search needs)
@@ -15,7 +15,7 @@ columns-spec =
     (λ c. search needs)
     -- returns
     (λ c. (search column-laws, search (two, needs)))
-    -- next-placed-requires-2
+    -- next-with-record-requires-2
     (λ c κs. search needs)
     -- enum-known-last
     (λ c. search needs)

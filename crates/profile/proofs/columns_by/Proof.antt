@@ -7,7 +7,7 @@ pub columns-by-spec : {M : Type 1} → statement M
 columns-by-spec =
     tie.close
     (tie.spec
-    -- next-placed-requires
+    -- next-with-record-requires
     (λ c κs. search needs)
     -- enum-known-cell
     (λ c. search needs)

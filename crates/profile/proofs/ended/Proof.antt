@@ -1,5 +1,5 @@
 use Rattle.profile.specs.Profile.{endedAt}
-use Rattle.walk.proofs.Choice.{picks-read}
+use Rattle.steps.proofs.Choice.{picks-read}
 use borrow.Author.Needs.{needs}
 use Rattle.profile.proofs.ended.Statement.{statement}
 use Rattle.profile.proofs.ended.Tie as tie

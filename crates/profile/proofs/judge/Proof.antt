@@ -16,7 +16,7 @@ judge-spec =
     (tie.spec Inv-loop μ-loop
     -- loop-holds
     (λ c. search (judge-laws, needs))
-    -- next-placed-requires
+    -- next-with-record-requires
     (λ c κs. search (judge-laws, needs))
     -- enum-known-at
     (λ c. search (judge-laws, needs))

@@ -1,5 +1,5 @@
 use Rattle.profile.specs.Profile.{limitOf}
-use Rattle.walk.proofs.Choice.{picks}
+use Rattle.steps.proofs.Choice.{picks}
 use Rattle.profile.proofs.limit_of.Statement.{statement}
 use Rattle.profile.proofs.limit_of.Tie as tie
 

@@ -29,7 +29,7 @@ profile-spec =
     (λ c κs. search needs)
     -- enum-told-3
     (λ c. search needs)
-    -- start-of-requires
+    -- first-place-requires
     (λ c κs. search needs)
     -- profile-at-requires
     (λ c κs. search needs)

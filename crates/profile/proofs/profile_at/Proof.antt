@@ -1,4 +1,4 @@
-use Rattle.walk.proofs.Choice.{refl′}
+use Rattle.steps.proofs.Choice.{refl′}
 use Rattle.profile.proofs.Laws.{by-judged}
 use borrow.Author.Needs.{needs}
 use Rattle.profile.proofs.profile_at.Statement.{statement}

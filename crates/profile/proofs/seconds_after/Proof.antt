@@ -1,5 +1,5 @@
 use Rattle.profile.specs.Profile.{secondsAfter}
-use Rattle.walk.proofs.Choice.{picks}
+use Rattle.steps.proofs.Choice.{picks}
 use Rattle.profile.proofs.seconds_after.Statement.{statement}
 use Rattle.profile.proofs.seconds_after.Tie as tie
 

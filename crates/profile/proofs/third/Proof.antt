@@ -1,6 +1,6 @@
 use Rattle.profile.proofs.Laws.{two, three}
 use Rattle.profile.specs.Profile.{thirdOf}
-use Rattle.walk.proofs.Choice.{picks}
+use Rattle.steps.proofs.Choice.{picks}
 use Rattle.profile.proofs.third.Statement.{statement}
 use Rattle.profile.proofs.third.Tie as tie
 

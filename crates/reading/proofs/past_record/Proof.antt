@@ -1,4 +1,4 @@
-use Rattle.walk.proofs.Choice.{picks-told}
+use Rattle.steps.proofs.Choice.{picks-told}
 use Rattle.reading.specs.Cells.{otherItem, placeAt}
 use borrow.Author.Needs.{needs}
 use Rattle.reading.proofs.past_record.Statement.{statement}

@@ -1,54 +1,27 @@
-use Rattle.replay.proofs.Laws.{aim-read}
+use Rattle.replay.proofs.Laws.{aims-laws}
 use borrow.Author.Needs.{needs}
 use Rattle.replay.proofs.entry_aim.Statement.{statement}
 use Rattle.replay.proofs.entry_aim.Tie as tie
-
--- src/lib.rt:184:9
-u32-at-requires : tie.Need-u32-at-requires
-u32-at-requires c κs = search needs
-
--- src/lib.rt:185:44
-add-u16-at : tie.Need-add-u16-at
-add-u16-at c = search needs
-
--- src/lib.rt:185:30
-u16-at-requires : tie.Need-u16-at-requires
-u16-at-requires c κs = search needs
-
--- src/lib.rt:185:9
-u16-as-u32-requires : tie.Need-u16-as-u32-requires
-u16-as-u32-requires c κs = search needs
-
--- src/lib.rt:186:47
-add-u16-at-2 : tie.Need-add-u16-at-2
-add-u16-at-2 c = search needs
-
--- src/lib.rt:186:33
-u16-at-requires-2 : tie.Need-u16-at-requires-2
-u16-at-requires-2 c κs = search needs
-
--- src/lib.rt:186:9
-u16-as-u32-requires-2 : tie.Need-u16-as-u32-requires-2
-u16-as-u32-requires-2 c κs = search needs
-
--- src/lib.rt:187:5
-aim-in-requires : tie.Need-aim-in-requires
-aim-in-requires c κs = search needs
-
--- src/lib.rt:179:1
-returns : tie.Need-returns
-returns c = search (aim-read, needs)
 
 pub entry-aim-spec : {M : Type 1} → statement M
 entry-aim-spec =
     tie.close
     (tie.spec
-    u32-at-requires
-    add-u16-at
-    u16-at-requires
-    u16-as-u32-requires
-    add-u16-at-2
-    u16-at-requires-2
-    u16-as-u32-requires-2
-    aim-in-requires
-    returns)
+    -- cell-of-entry-requires
+    (λ c κs. search needs)
+    -- enum-known-kind
+    (λ c. search needs)
+    -- enum-told
+    (λ c. search needs)
+    -- entry-aim-requires
+    (λ c κs. search needs)
+    -- enum-told-2
+    (λ c. search needs)
+    -- entry-aim-requires-2
+    (λ c κs. search needs)
+    -- returns
+    (λ c. (search (aims-laws, needs), search (aims-laws, needs)))
+    -- returns-2
+    (λ c. search needs)
+    -- returns-3
+    (λ c. search needs))

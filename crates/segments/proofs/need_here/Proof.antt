@@ -1,4 +1,4 @@
-use Rattle.walk.proofs.Choice.{picks}
+use Rattle.steps.proofs.Choice.{picks}
 use Rattle.segments.specs.Segments.{need}
 use borrow.Author.Needs.{needs}
 use Rattle.segments.proofs.need_here.Statement.{statement}

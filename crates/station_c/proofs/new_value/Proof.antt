@@ -1,6 +1,6 @@
 use borrow.Author.Needs.{needs}
 use Rattle.station_c.specs.Answers.{newValue}
-use Rattle.walk.proofs.Choice.{arms}
+use Rattle.steps.proofs.Choice.{arms}
 use Rattle.station_c.proofs.new_value.Statement.{statement}
 use Rattle.station_c.proofs.new_value.Tie as tie
 

@@ -1,4 +1,4 @@
-use Rattle.walk.proofs.Choice.{refl′}
+use Rattle.steps.proofs.Choice.{refl′}
 use Rattle.station_c.proofs.Laws.{sheet-seen, sheets-ended}
 use borrow.Author.Needs.{needs}
 use Rattle.station_c.proofs.station_next_sheet.Statement.{statement}

@@ -27,7 +27,7 @@ check-strings-spec =
     (λ c. search needs)
     -- enum-known-d
     (λ c. search needs)
-    -- fills-requires
+    -- ends-with-segments-requires
     (λ c κs. search table-laws)
     -- enum-known-number-2
     (λ c. search needs)

@@ -1,4 +1,4 @@
-use Rattle.walk.proofs.Choice.{picks}
+use Rattle.steps.proofs.Choice.{picks}
 use Rattle.strings.specs.Table.{nextPlace}
 use borrow.Author.Needs.{needs}
 use Rattle.strings.proofs.next_place.Statement.{statement}

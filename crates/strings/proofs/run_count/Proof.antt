@@ -1,4 +1,4 @@
-use Rattle.walk.proofs.Choice.{picks-read}
+use Rattle.steps.proofs.Choice.{picks-read}
 use Rattle.strings.specs.Table.{runsAt}
 use borrow.Author.Needs.{needs}
 use Rattle.strings.proofs.run_count.Statement.{statement}

@@ -10,7 +10,7 @@ use borrow.Fn.PlainCycle.{Measures, is, falls, and}
 use Rattle.substream.proofs.walk.Reads as walk
 use Rattle.substream.proofs.walk.Kinds as walk-kinds
 use Rattle.substream.proofs.+walk.Lts-walk as walk-lts
-use Rattle.le.proofs.u16_at.Reads as u16-at-reads
+use Rattle.bytes.proofs.u16_at.Reads as u16-at-reads
 use Rattle.substream.proofs.step_at.Reads as step-at-reads
 use Rattle.substream.proofs.+walk.{statement}
 use Rattle.substream.proofs.+walk.Tie.{close}

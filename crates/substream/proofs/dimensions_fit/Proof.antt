@@ -1,5 +1,5 @@
 use Rattle.substream.specs.Substream.{dimensionsFit}
-use Rattle.walk.proofs.Choice.{picks-told}
+use Rattle.steps.proofs.Choice.{picks-told}
 use borrow.Author.Needs.{needs}
 use Rattle.substream.proofs.dimensions_fit.Statement.{statement}
 use Rattle.substream.proofs.dimensions_fit.Tie as tie

@@ -1,5 +1,5 @@
 use Rattle.substream.specs.Substream.{dimensionsRecord}
-use Rattle.walk.proofs.Choice.{picks-told}
+use Rattle.steps.proofs.Choice.{picks-told}
 use borrow.Author.Needs.{needs}
 use Rattle.substream.proofs.dimensions_record.Statement.{statement}
 use Rattle.substream.proofs.dimensions_record.Tie as tie

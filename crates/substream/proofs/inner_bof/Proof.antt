@@ -1,5 +1,5 @@
 use Rattle.substream.specs.Substream.{innerBof}
-use Rattle.walk.proofs.Choice.{picks-read}
+use Rattle.steps.proofs.Choice.{picks-read}
 use borrow.Author.Needs.{needs}
 use Rattle.substream.proofs.inner_bof.Statement.{statement}
 use Rattle.substream.proofs.inner_bof.Tie as tie

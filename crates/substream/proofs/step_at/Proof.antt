@@ -1,5 +1,5 @@
 use Rattle.substream.proofs.Laws.{answers}
-use Rattle.walk.proofs.Choice.{picks-told}
+use Rattle.steps.proofs.Choice.{picks-told}
 use Rattle.record.proofs.Laws.{body-within, end-within}
 use borrow.Author.Needs.{needs}
 use Rattle.substream.proofs.step_at.Statement.{statement}

@@ -1,5 +1,5 @@
 use Rattle.trailing.proofs.Laws.{read}
-use Rattle.walk.proofs.Choice.{picks}
+use Rattle.steps.proofs.Choice.{picks}
 use Rattle.trailing.specs.Trailing.{areasOf}
 use borrow.Author.Needs.{needs}
 use Rattle.trailing.proofs.areas.Statement.{statement}

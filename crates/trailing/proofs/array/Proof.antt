@@ -1,5 +1,5 @@
 use Rattle.trailing.proofs.Laws.{read, product-fits}
-use Rattle.walk.proofs.Choice.{picks}
+use Rattle.steps.proofs.Choice.{picks}
 use Rattle.trailing.specs.Trailing.{arrayOf}
 use borrow.Author.Needs.{needs}
 use Rattle.trailing.proofs.array.Statement.{statement}

@@ -1,4 +1,4 @@
-use Rattle.walk.proofs.Choice.{arms}
+use Rattle.steps.proofs.Choice.{arms}
 use Rattle.trailing.specs.Trailing.{elementBy, elementOf}
 use borrow.Author.Needs.{needs}
 use Rattle.trailing.proofs.element.Statement.{statement}

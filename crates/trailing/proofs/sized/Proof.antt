@@ -1,4 +1,4 @@
-use Rattle.walk.proofs.Choice.{picks}
+use Rattle.steps.proofs.Choice.{picks}
 use Rattle.trailing.specs.Trailing.{sizedOf}
 use Rattle.trailing.proofs.sized.Statement.{statement}
 use Rattle.trailing.proofs.sized.Tie as tie

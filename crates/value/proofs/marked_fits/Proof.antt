@@ -1,5 +1,5 @@
-use Rattle.walk.specs.Choice.{pick}
-use Rattle.walk.proofs.Choice.{tests}
+use Rattle.steps.specs.Choice.{pick}
+use Rattle.steps.proofs.Choice.{tests}
 use Rattle.value.specs.Value.{markedFits}
 use borrow.Author.Needs.{needs}
 use Rattle.value.proofs.marked_fits.Statement.{statement}

@@ -15,13 +15,13 @@ check-with-spec =
     (λ c. search needs)
     -- enum-known-g
     (λ c. search needs)
-    -- tops-requires
+    -- walk-top-level-requires
     (λ c κs. search needs)
     -- enum-known-number-2
     (λ c. search needs)
     -- enum-known-p
     (λ c. search needs)
-    -- settled-requires
+    -- sheet-list-agreement-requires
     (λ c κs. search (check-laws, needs))
     -- enum-known-offset
     (λ c. search needs)

@@ -17,7 +17,7 @@ sheet-count-spec =
     (tie.spec Inv-loop μ-loop
     -- loop-holds
     (λ c. search (count-laws, needs))
-    -- bound-at-requires
+    -- boundsheet-at-requires
     (λ c κs. search (count-laws, needs))
     -- enum-known-next
     (λ c. search needs)

@@ -1,0 +1,29 @@
+use Rattle.cell_words.proofs.Parts.{put-laws}
+use borrow.Author.Needs.{needs}
+use Rattle.cell_words.proofs.put_rk_cell.Statement.{statement}
+use Rattle.cell_words.proofs.put_rk_cell.Tie as tie
+
+pub put-rk-cell-spec : {M : Type 1} → statement M
+put-rk-cell-spec =
+    tie.close
+    (tie.spec
+    -- returns
+    (λ c. search (put-laws, needs))
+    -- returns-2
+    (λ c. search (put-laws, needs))
+    -- add-q
+    (λ c. search needs)
+    -- add-u32-at
+    (λ c. search needs)
+    -- u32-at-requires
+    (λ c κs. search needs)
+    -- rk-said-requires
+    (λ c κs. search needs)
+    -- add-put-one
+    (λ c. search needs)
+    -- put-one-requires
+    (λ c κs. search needs)
+    -- same-length
+    (λ c. search needs)
+    -- returns-3
+    (λ c. search (put-laws, needs)))

@@ -1,2 +1,0 @@
-pub mod Compacted
-pub mod Parts

@@ -1,3 +1,0 @@
-pub mod Ordered
-pub mod Fields
-pub mod Kept

@@ -1,3 +1,0 @@
-pub mod OneToken
-pub mod Visits
-pub mod Judged

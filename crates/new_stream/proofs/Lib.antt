@@ -1,0 +1,16 @@
+pub mod Entries
+pub mod Written
+pub mod Fates
+pub mod Records
+pub mod Echo
+pub mod Texts
+pub mod Substreams
+pub mod Tops
+pub mod Continues
+pub mod GlobalFates
+pub mod Globals
+pub mod Agreement
+pub mod Places
+pub mod Check
+pub mod Example
+pub mod Twice

@@ -1,0 +1,5 @@
+pub mod Entries
+pub mod Compact
+pub mod Parts
+pub mod Echo
+pub mod Claims

@@ -1,1 +1,0 @@
-// Theorems: demand 3 over a template and a session. No code.

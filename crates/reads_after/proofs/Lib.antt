@@ -1,0 +1,15 @@
+pub mod Lists
+pub mod Fields
+pub mod Records
+pub mod Found
+pub mod Trailing
+pub mod Items
+pub mod Cells
+pub mod Names
+pub mod Strings
+pub mod Reading
+pub mod Values
+pub mod Texts
+pub mod Ordered
+pub mod FieldsApart
+pub mod Kept

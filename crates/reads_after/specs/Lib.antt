@@ -1,0 +1,4 @@
+pub mod Claims
+pub mod Replaced
+pub mod Parts
+pub mod Fields

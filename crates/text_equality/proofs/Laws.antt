@@ -1,0 +1,360 @@
+-- The laws of comparing characters, with what a call gave as the proofs have it. Assumes nothing.
+use Prim.Native.Nat.{ℕ, zero, suc, _+_, _-_, _*_, _/_, _^_, _≤_, _<_}
+use mathlib.Core.Path.{_≡_, refl, sym, ap, _∙_, subst}
+use mathlib.Core.Bool.{Bool, true, false}
+use mathlib.Core.List.{List, [], _∷_, _++_}
+use native.Mathlib.Omega.{arith}
+use native.Mathlib.Nat.{suc-add, suc-mul, add-mul, mul-le-mul-right, div-one, div-mul-le-self}
+use lib.ListN.{length, getD}
+use lib.Dec.{eqb}
+use mir.Val.{Fits as FitsIn}
+use mir.Syntax.{w64}
+use Rattle.steps.specs.Choice.{pick}
+use Rattle.steps.proofs.Choice.{pick-eq, pick-ne, pick-any, refl′}
+use Rattle.bytes.specs.Bytes.{numAt}
+use Rattle.segments.specs.declared.Cursor.{Cursor}
+use Rattle.segments.specs.declared.Room.{Room}
+use Rattle.segments.specs.Segments.{Got, got, refused, listOf, on, room, items}
+use Rattle.segments.specs.Parts.{Passes, Fits, nums, roomed}
+use Rattle.segments.proofs.Laws.{append, items-fit, items-room, items-refused, list-append, passes-append, nums-length, Count, count-items}
+use Rattle.segments.proofs.Local.{ItemAt, room-item}
+use Rattle.differences.specs.Differences.{same, charsFrom, charsOf}
+use Rattle.text_equality.specs.declared.Chars.{Chars}
+use Rattle.text_equality.specs.declared.Run.{Run}
+use Rattle.text_equality.specs.Characters.{Readable, unitsIn, Ready, pastBy, RunFits}
+
+-- ---- lists
+pub same-apart : (l m : List ℕ) → (length l ≡ length m → ⊥) → false ≡ same l m
+unfolding same
+same-apart [] [] h = absurd (h refl)
+same-apart [] (y ∷ m) h = refl
+same-apart (x ∷ l) [] h = refl
+same-apart (x ∷ l) (y ∷ m) h = pick-any (λ (r : Bool). false ≡ r) (eqb x y) (same-apart l m (λ e. h (ap suc e))) refl
+
+pick-pick : (b c d e : Bool) → d ≡ pick c e false → pick b d false ≡ pick (pick b c false) e false
+unfolding pick
+pick-pick true c d e h = h
+pick-pick false c d e h = refl
+
+same-append : (l m l′ m′ : List ℕ) → length l ≡ length m → same (l ++ l′) (m ++ m′) ≡ pick (same l m) (same l′ m′) false
+unfolding same pick
+same-append [] [] l′ m′ h = refl
+same-append [] (y ∷ m) l′ m′ h = absurd (omega arith)
+same-append (x ∷ l) [] l′ m′ h = absurd (omega arith)
+same-append (x ∷ l) (y ∷ m) l′ m′ h = pick-pick (eqb x y) (same l m) (same (l ++ l′) (m ++ m′)) (same l′ m′) (same-append l m l′ m′ (omega arith))
+
+-- ---- a run of characters
+module _ (s t : List ℕ) (w v a b k : ℕ) (x : Bool) (inv : x ≡ same (nums s w k a) (nums t v k b)) where
+  pub run-end : k ≤ 0 → true ≡ x
+  unfolding nums same
+  run-end h = let e : k ≡ 0 = omega arith in sym (inv ∙ ap (λ (n : ℕ). same (nums s w n a) (nums t v n b)) e)
+
+  module _ (some : 0 < k) (u u′ : ℕ) (i : u ≡ numAt s w a) (j : u′ ≡ numAt t v b) where
+    step : x ≡ pick (eqb (numAt s w a) (numAt t v b)) (same (nums s w (k - 1) (a + w)) (nums t v (k - 1) (b + v))) false
+    unfolding nums same
+    step = let e : k ≡ suc (k - 1) = omega arith in inv ∙ ap (λ (n : ℕ). same (nums s w n a) (nums t v n b)) e
+
+    pub run-stop : (u ≡ u′ → ⊥) → false ≡ x
+    run-stop h = pick-ne false _ false (numAt s w a) (numAt t v b) (λ e. h (i ∙ e ∙ sym j)) refl ∙ sym step
+
+    pub run-turn : u ≡ u′ → x ≡ same (nums s w (k - 1) (a + w)) (nums t v (k - 1) (b + v))
+    run-turn h = step ∙ sym (pick-eq _ (same (nums s w (k - 1) (a + w)) (nums t v (k - 1) (b + v))) false (numAt s w a) (numAt t v b) (sym i ∙ h ∙ j) refl)
+
+pub ruleset run-laws = (run-end, run-stop, run-turn)
+
+-- ---- a run by words of eight bytes
+abbrev pub Bytes : List ℕ → Type 0
+Bytes s = (i : ℕ) → getD s i 0 < 256
+
+module _ (s t : List ℕ) (f : Bytes s) (g : Bytes t) where
+  -- numbers that agree have parts that do
+  parts-same : (w m n a b : ℕ) → n ≡ w + m → numAt s n a ≡ numAt t n b → (numAt s w a ≡ numAt t w b) × (numAt s m (a + w) ≡ numAt t m (b + w))
+  unfolding numAt
+  parts-same zero m n a b e h =
+      let k : m ≡ n = omega arith in
+      let i : a + 0 ≡ a = omega arith in
+      let j : b ≡ b + 0 = omega arith in
+      (refl, (λ z. numAt s (k z) (i z)) ∙ h ∙ (λ z. numAt t (sym k z) (j z)))
+  parts-same (suc w) m n a b e h =
+      let o : n ≡ suc (w + m) = omega arith in
+      let h′ : getD s a 0 + 256 * numAt s (w + m) (a + 1) ≡ getD t b 0 + 256 * numAt t (w + m) (b + 1) = ap (λ (l : ℕ). numAt s l a) (sym o) ∙ h ∙ ap (λ (l : ℕ). numAt t l b) o in
+      let i = f a in
+      let j = g b in
+      let low : getD s a 0 ≡ getD t b 0 = omega arith in
+      let high : numAt s (w + m) (a + 1) ≡ numAt t (w + m) (b + 1) = omega arith in
+      let r = parts-same w m (w + m) (a + 1) (b + 1) refl high in
+      let x : a + suc w ≡ a + 1 + w = omega arith in
+      let y : b + 1 + w ≡ b + suc w = omega arith in
+      ((let l = r .0 in λ z. low z + 256 * l z), ap (numAt s m) x ∙ r .1 ∙ ap (numAt t m) y)
+
+  -- past k characters whose bytes together are one number on both sides
+  past-word : (w k m a b : ℕ) → numAt s (k * w) a ≡ numAt t (k * w) b → same (nums s w (k + m) a) (nums t w (k + m) b) ≡ same (nums s w m (a + k * w)) (nums t w m (b + k * w))
+  unfolding nums same
+  past-word w zero m a b h = let o : 0 + m ≡ m = omega arith in let i : a ≡ a + 0 * w = omega arith in let j : b ≡ b + 0 * w = omega arith in λ z. same (nums s w (o z) (i z)) (nums t w (o z) (j z))
+  past-word w (suc k) m a b h =
+      let e = suc-mul k w in
+      let o = suc-add k m in
+      let r = parts-same w (k * w) (suc k * w) a b (omega arith) h in
+      let x : a + w + k * w ≡ a + suc k * w = omega arith in
+      let y : b + w + k * w ≡ b + suc k * w = omega arith in
+      (λ z. same (nums s w (o z) a) (nums t w (o z) b))
+      ∙ sym (pick-eq _ (same (nums s w (k + m) (a + w)) (nums t w (k + m) (b + w))) false (numAt s w a) (numAt t w b) (r .0) refl)
+      ∙ past-word w k m (a + w) (b + w) (r .1)
+      ∙ (λ z. same (nums s w m (x z)) (nums t w m (y z)))
+
+word-bytes : (w word : ℕ) → 1 ≤ w → w ≤ 2 → word ≡ 8 / w → word * w ≡ 8
+word-bytes zero word i j e = absurd (omega arith)
+word-bytes (suc zero) word i j e = ap (λ (n : ℕ). n * 1) e
+word-bytes (suc (suc zero)) word i j e = ap (λ (n : ℕ). n * 2) e
+word-bytes (suc (suc (suc w))) word i j e = absurd (omega arith)
+
+-- the first `done` of k characters agree, and the others stand at a and b
+pub record Met (s : List ℕ) (w p : ℕ) (t : List ℕ) (v q k a b done : ℕ) : Type 0 where
+  pub few : done ≤ k
+  pub first : a ≡ p + done * w
+  pub second : b ≡ q + done * v
+  pub rest : same (nums s w k p) (nums t v k q) ≡ same (nums s w (k - done) a) (nums t v (k - done) b)
+
+abbrev pub Skips : List ℕ → ℕ → ℕ → List ℕ → ℕ → ℕ → ℕ → ℕ → Type 0
+Skips s w p t v q k r = (r ≤ k) × (same (nums s w k p) (nums t v k q) ≡ same (nums s w (k - r) (p + r * w)) (nums t v (k - r) (q + r * v)))
+
+module _ (s : List ℕ) (w p : ℕ) (t : List ℕ) (v q k : ℕ) where
+  pub met-none : Met s w p t v q k p q 0
+  met-none = record { few = omega arith; first = omega arith; second = omega arith; rest = let e : k ≡ k - 0 = omega arith in λ z. same (nums s w (e z) p) (nums t v (e z) q) }
+
+  pub met-skips : (a b done : ℕ) → Met s w p t v q k a b done → Skips s w p t v q k done
+  met-skips a b done h = (h .few, h .rest ∙ (let i = h .first in let j = h .second in λ z. same (nums s w (k - done) (i z)) (nums t v (k - done) (j z))))
+
+  pub none-skips : Skips s w p t v q k 0
+  none-skips = met-skips p q 0 met-none
+
+  module _ (a b done word : ℕ) (h : Met s w p t v q k a b done) (i : 1 ≤ w) (j : w ≤ 2) (e : w ≡ v) (is : word ≡ 8 / w) (more : word ≤ k - done) where
+    bytes-done : (done + word) * w ≡ done * w + 8
+    bytes-done = let x = add-mul done word w in let y = word-bytes w word i j is in omega arith
+
+    bytes-room : done * w + 8 ≤ k * w
+    bytes-room = let f = h .few in let l : done + word ≤ k = omega arith in let x = mul-le-mul-right w l in let y = bytes-done in omega arith
+
+    word-some : 1 ≤ word
+    word-some = let x = word-bytes w word i j is in go word x
+      where
+        go : (n : ℕ) → n * w ≡ 8 → 1 ≤ n
+        go zero l = absurd (omega arith)
+        go (suc n) l = omega arith
+
+    pub word-first : p + k * w ≤ length s → a + 8 ≤ length s
+    word-first l = let x = bytes-room in let y = h .first in omega arith
+
+    pub word-second : q + k * v ≤ length t → b + 8 ≤ length t
+    word-second l = let x = bytes-room in let y = h .second in let z = ap (λ (n : ℕ). done * n) e in let z′ = ap (λ (n : ℕ). k * n) e in omega arith
+
+    pub word-first-fits : p + k * w ≤ length s → length s < 2 ^ 64 → a + 8 < 2 ^ 64
+    word-first-fits l m = let x = word-first l in omega arith
+
+    pub word-second-fits : q + k * v ≤ length t → length t < 2 ^ 64 → b + 8 < 2 ^ 64
+    word-second-fits l m = let x = word-second l in omega arith
+
+    pub word-less : k - (done + word) < k - done
+    word-less = let x = word-some in let y = h .few in omega arith
+
+    pub word-met : Bytes s → Bytes t → (x y : ℕ) → x ≡ numAt s 8 a → y ≡ numAt t 8 b → x ≡ y → Met s w p t v q k (a + 8) (b + 8) (done + word)
+    word-met f g x y x-is y-is o =
+        let l = h .few in
+        let c = word-bytes w word i j is in
+        let n : k - done ≡ word + (k - (done + word)) = omega arith in
+        let u = past-word s t f g w word (k - (done + word)) a b (ap (λ (m : ℕ). numAt s m a) c ∙ sym x-is ∙ o ∙ y-is ∙ ap (λ (m : ℕ). numAt t m b) (sym c)) in
+        record {
+          few = omega arith;
+          first = let d = bytes-done in let y = h .first in omega arith;
+          second = let d = bytes-done in let y = h .second in let z = ap (λ (n : ℕ). done * n) e in let z′ = ap (λ (n : ℕ). (done + word) * n) e in omega arith;
+          rest =
+              h .rest
+              ∙ (λ z. same (nums s w (n z) a) (nums t (sym e z) (n z) b))
+              ∙ u
+              ∙ (λ z. same (nums s w (k - (done + word)) (a + c z)) (nums t (e z) (k - (done + word)) (b + c z)));
+        }
+
+-- from there on, character by character
+module _ (w p k r n : ℕ) (few : r ≤ k) (room : p + k * w ≤ n) where
+  parted : k * w ≡ r * w + (k - r) * w
+  parted = let e : k ≡ r + (k - r) = omega arith in ap (λ (m : ℕ). m * w) e ∙ add-mul r (k - r) w
+
+  pub skip-fits : n < 2 ^ 64 → p + r * w < 2 ^ 64
+  skip-fits l = let e = parted in omega arith
+
+  pub skip-product : n < 2 ^ 64 → r * w < 2 ^ 64
+  skip-product l = let e = parted in omega arith
+
+  pub skip-left : p + r * w + (k - r) * w ≤ n
+  skip-left = let e = parted in omega arith
+
+-- ---- what fits in both
+pub fits-fewer : (here w n k b m : ℕ) → Fits here w n k b → 1 ≤ m → m ≤ k → Fits here w n m (m * w)
+fits-fewer here w n k b m f i j = record { some = i; few = let a = f .few in omega arith; bytes = refl; fit = let a = f .bytes in let c = f .fit in let d = mul-le-mul-right w j in omega arith }
+
+module _ (here w there v n k b m c : ℕ) (f : Fits here w n k b) (g : Fits there v k m c) where
+  pub run-made : RunFits here w there v n (record { count = m; first = m * w; second = c })
+  run-made = record {
+    here-fits = fits-fewer here w n k b m f (g .some) (g .few);
+    there-fits = record { some = g .some; few = let a = g .few in let d = f .few in omega arith; bytes = g .bytes; fit = g .fit };
+  }
+
+  pub run-product : FitsIn w64 here → FitsIn w64 (m * w)
+  run-product i = let a = fits-fewer here w n k b m f (g .some) (g .few) .fit in omega arith
+
+-- ---- characters in segments
+readable-length : (s : List ℕ) (x : Chars) → Readable s x → length (unitsIn s x) ≡ x .count
+readable-length s x p = by (items 8 s true (x .width) (x .count) (x .place)) (p .passes) (count-items 8 s true (x .width) (x .count) (x .place))
+  where
+    by : (y : Got (List ℕ)) → Passes y → Count (x .count) y → length (listOf y) ≡ x .count
+    by (got l d) h k = k
+    by (refused a b) h k = absurd h
+
+pub chars-apart : (s t : List ℕ) (x y : Chars) → Readable s x → Readable t y → (x .count ≡ y .count → ⊥) → false ≡ same (unitsIn s x) (unitsIn t y)
+chars-apart s t x y p q h = same-apart (unitsIn s x) (unitsIn t y) (λ e. h (sym (readable-length s x p) ∙ e ∙ readable-length t y q))
+
+module _ (s : List ℕ) (x : Chars) (p : Readable s x) (some : 1 ≤ x .count) (r : Room) (is : roomed r ≡ room 8 s true (x .width) (x .place)) where
+  pub room-not : (a b : ℕ) → r ≡ Room.Refused a b → ⊥
+  room-not a b q =
+      let e : x .count ≡ suc (x .count - 1) = omega arith in
+      subst Passes (ap (λ (l : ℕ). items 8 s true (x .width) l (x .place)) e ∙ items-refused 8 s true (x .width) (x .count - 1) (x .place) a b (sym is ∙ ap roomed q)) (p .passes)
+
+  module _ (a : ℕ) (e : Cursor) (h : r ≡ Room.At a e) where
+    room-got : room 8 s true (x .width) (x .place) ≡ got a e
+    room-got = sym is ∙ ap roomed h
+
+    item : ItemAt s (x .place) (x .width) a e
+    item = room-item 8 s true (x .width) (x .place) a e (p .inside) room-got
+
+    same-items : items 8 s true (x .width) (x .count) (x .place) ≡ items 8 s true a (x .count) e
+    same-items =
+        let k : x .count ≡ suc (x .count - 1) = omega arith in
+        ap (λ (l : ℕ). items 8 s true (x .width) l (x .place)) k ∙ items-room 8 s true (x .width) (x .count - 1) (x .place) a e (p .some) (p .inside) room-got
+        ∙ ap (λ (l : ℕ). items 8 s true a l e) (sym k)
+
+    pub room-ready : Ready s x (record { count = x .count; width = a; place = e })
+    room-ready = record {
+      readable = record { inside = item .inside; some = item .some (p .some); small = item .small (p .small); passes = subst Passes same-items (p .passes) };
+      count = refl;
+      units = ap listOf same-items;
+      here = item .here;
+    }
+
+-- past k of them
+module _ (s : List ℕ) (x : Chars) (p : Readable s x) (k b : ℕ) (fit : Fits (x .place .end - x .place .at) (x .width) (x .count) k b) where
+  turn : items 8 s true (x .width) (x .count) (x .place) ≡ append (nums s (x .width) k (x .place .at)) (items 8 s true (x .width) (x .count - k) (on (x .place) b))
+  turn =
+      let e : x .count ≡ k + (x .count - k) = (let f = fit .few in omega arith) in
+      ap (λ (l : ℕ). items 8 s true (x .width) l (x .place)) e
+      ∙ items-fit 8 s true (x .width) k (x .count - k) (x .place) (p .some) (subst (λ (l : ℕ). l ≤ x .place .end - x .place .at) (fit .bytes) (fit .fit))
+      ∙ ap (λ (l : ℕ). append (nums s (x .width) k (x .place .at)) (items 8 s true (x .width) (x .count - k) (on (x .place) l))) (sym (fit .bytes))
+
+  turn-passes : Passes (append (nums s (x .width) k (x .place .at)) (items 8 s true (x .width) (x .count - k) (on (x .place) b)))
+  turn-passes = subst Passes turn (p .passes)
+
+  past-list : unitsIn s x ≡ nums s (x .width) k (x .place .at) ++ unitsIn s (pastBy x k b)
+  past-list = ap listOf turn ∙ list-append (nums s (x .width) k (x .place .at)) (items 8 s true (x .width) (x .count - k) (on (x .place) b)) turn-passes
+
+  past-within : x .place .at + b ≤ x .place .end
+  past-within = let i = fit .fit in let j = p .inside .0 in omega arith
+
+  past-readable : Readable s (pastBy x k b)
+  past-readable = record {
+    inside = (past-within, p .inside .1);
+    some = p .some;
+    small = p .small;
+    passes = passes-append (nums s (x .width) k (x .place .at)) (items 8 s true (x .width) (x .count - k) (on (x .place) b)) turn-passes;
+  }
+
+  past-room : x .place .at + k * x .width ≤ length s
+  past-room = let i = past-within in let j = p .inside .1 in let m = fit .bytes in omega arith
+
+-- the two sides together: a and b are the characters where they stand, k the run
+module _ (s t : List ℕ) (x y a b : Chars) (p : Ready s x a) (q : Ready t y b) (many : x .count ≡ y .count) where
+  module _ (k : Run) (fit : RunFits (a .place .end - a .place .at) (a .width) (b .place .end - b .place .at) (b .width) (a .count) k) where
+    there : Fits (b .place .end - b .place .at) (b .width) (b .count) (k .count) (k .second)
+    there = subst (λ (n : ℕ). Fits (b .place .end - b .place .at) (b .width) n (k .count) (k .second)) (p .count ∙ many ∙ sym (q .count)) (fit .there-fits)
+
+    pub record Turn : Type 0 where
+      pub first-room : a .place .at + k .count * a .width ≤ length s
+      pub second-room : b .place .at + k .count * b .width ≤ length t
+      pub first-few : k .count ≤ a .count
+      pub second-few : k .count ≤ b .count
+      pub first-within : a .place .at + k .first ≤ a .place .end
+      pub second-within : b .place .at + k .second ≤ b .place .end
+      pub first-past : Readable s (pastBy a (k .count) (k .first))
+      pub second-past : Readable t (pastBy b (k .count) (k .second))
+      pub as-many : a .count - k .count ≡ b .count - k .count
+      pub less : a .count - k .count < x .count
+      pub parted : same (unitsIn s x) (unitsIn t y) ≡ pick (same (nums s (a .width) (k .count) (a .place .at)) (nums t (b .width) (k .count) (b .place .at))) (same (unitsIn s (pastBy a (k .count) (k .first))) (unitsIn t (pastBy b (k .count) (k .second)))) false
+
+    pub turned : Turn
+    turned = record {
+      first-room = past-room s a (p .readable) (k .count) (k .first) (fit .here-fits);
+      second-room = past-room t b (q .readable) (k .count) (k .second) there;
+      first-few = fit .here-fits .few;
+      second-few = there .few;
+      first-within = past-within s a (p .readable) (k .count) (k .first) (fit .here-fits);
+      second-within = past-within t b (q .readable) (k .count) (k .second) there;
+      first-past = past-readable s a (p .readable) (k .count) (k .first) (fit .here-fits);
+      second-past = past-readable t b (q .readable) (k .count) (k .second) there;
+      as-many = ap (λ (n : ℕ). n - k .count) (p .count ∙ many ∙ sym (q .count));
+      less = let i = fit .here-fits .some in let j = fit .here-fits .few in let l = p .count in omega arith;
+      parted =
+          ap (λ (l : List ℕ). same l (unitsIn t y)) (p .units ∙ past-list s a (p .readable) (k .count) (k .first) (fit .here-fits))
+          ∙ ap (λ (l : List ℕ). same (nums s (a .width) (k .count) (a .place .at) ++ unitsIn s (pastBy a (k .count) (k .first))) l) (q .units ∙ past-list t b (q .readable) (k .count) (k .second) there)
+          ∙ same-append (nums s (a .width) (k .count) (a .place .at)) (nums t (b .width) (k .count) (b .place .at)) _ _ (nums-length s (a .width) (k .count) (a .place .at) ∙ sym (nums-length t (b .width) (k .count) (b .place .at)));
+    }
+
+pub parted-same : (x y r p : Bool) → x ≡ pick r y false → p ≡ r → p ≡ true → x ≡ y
+unfolding pick
+parted-same x y r p h i j = h ∙ ap (λ (z : Bool). pick z y false) (sym i ∙ j)
+
+pub parted-differ : (x y r p : Bool) → x ≡ pick r y false → p ≡ r → p ≡ false → false ≡ x
+unfolding pick
+parted-differ x y r p h i j = sym (h ∙ ap (λ (z : Bool). pick z y false) (sym i ∙ j))
+
+pub chars-end : (s t : List ℕ) (z : Bool) (x y : Chars) → z ≡ same (unitsIn s x) (unitsIn t y) → x .count ≡ y .count → x .count ≡ 0 → true ≡ z
+unfolding items same
+chars-end s t z x y inv m h =
+    sym (inv
+    ∙ ap (λ (k : ℕ). same (listOf (items 8 s true (x .width) k (x .place))) (unitsIn t y)) h
+    ∙ ap (λ (k : ℕ). same [] (listOf (items 8 t true (y .width) k (y .place)))) (sym m ∙ h))
+
+pub ruleset chars-laws = (chars-apart, chars-end, refl′)
+
+-- ---- names
+pub chars-one : (n w : ℕ) → w ≡ 1 → n ≡ n / w
+chars-one n w e = rw e (sym (div-one n))
+
+pub chars-two : (n w : ℕ) → 1 ≤ w → w ≤ 2 → (w ≡ 1 → ⊥) → n / 2 ≡ n / w
+chars-two n w i j h = let e : w ≡ 2 = omega arith in rw e refl
+
+chars-nums : (b : List ℕ) (w k p : ℕ) → charsFrom b w p k ≡ nums b w k p
+unfolding charsFrom nums
+chars-nums b w zero p = refl
+chars-nums b w (suc k) p = ap (λ (l : List ℕ). numAt b w p ∷ l) (chars-nums b w k (p + w))
+
+module _ (a b : List ℕ) (w v n m : ℕ) (i : n ≡ length a / w) (j : m ≡ length b / v) where
+  pub names-apart : (n ≡ m → ⊥) → false ≡ same (charsOf a w) (charsOf b v)
+  names-apart h =
+      same-apart (charsOf a w) (charsOf b v)
+      (λ e. h (i ∙ sym (nums-length a w (length a / w) 0) ∙ ap length (sym (chars-nums a w (length a / w) 0)) ∙ e ∙ ap length (chars-nums b v (length b / v) 0) ∙ nums-length b v (length b / v) 0 ∙ sym j))
+
+  module _ (e : n ≡ m) where
+    pub name-first : 0 + n * w ≤ length a
+    name-first = let k = div-mul-le-self (length a) w in subst (λ (z : ℕ). 0 + z * w ≤ length a) (sym i) (omega arith)
+
+    pub name-second : 0 + n * v ≤ length b
+    name-second = let k = div-mul-le-self (length b) v in subst (λ (z : ℕ). 0 + z * v ≤ length b) (sym (e ∙ j)) (omega arith)
+
+    pub names-run : (x : Bool) → x ≡ same (nums a w n 0) (nums b v n 0) → x ≡ same (charsOf a w) (charsOf b v)
+    names-run x h =
+        h ∙ ap (λ (k : ℕ). same (nums a w k 0) (nums b v n 0)) i ∙ ap (λ (k : ℕ). same (nums a w (length a / w) 0) (nums b v k 0)) (e ∙ j)
+        ∙ ap (λ (l : List ℕ). same l (nums b v (length b / v) 0)) (sym (chars-nums a w (length a / w) 0))
+        ∙ ap (same (charsOf a w)) (sym (chars-nums b v (length b / v) 0))
+
+pub ruleset name-laws = (chars-one, chars-two, names-apart, name-first, name-second, names-run)
+
+pub same-moved : (s t : List ℕ) (a a′ b b′ : Chars) → a ≡ a′ → b ≡ b′ → same (unitsIn s a′) (unitsIn t b′) ≡ same (unitsIn s a) (unitsIn t b)
+same-moved s t a a′ b b′ i j = λ k. same (unitsIn s (sym i k)) (unitsIn t (sym j k))

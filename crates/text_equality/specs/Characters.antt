@@ -1,0 +1,41 @@
+-- What the contracts speak of.
+use Prim.Native.Nat.{ℕ, _-_, _≤_}
+use mathlib.Core.Path.{_≡_}
+use mathlib.Core.Bool.{true}
+use mathlib.Core.List.{List}
+use Rattle.segments.specs.Segments.{listOf, on, items}
+use Rattle.segments.specs.Parts.{Inside, Passes, Fits}
+use Rattle.text_equality.specs.declared.Chars.{Chars}
+use Rattle.text_equality.specs.declared.Run.{Run}
+
+-- the characters stand there
+pub record Readable (s : List ℕ) (x : Chars) : Type 0 where
+  pub inside : Inside s (x .place)
+  pub some : 1 ≤ x .width
+  pub small : x .width ≤ 2
+  pub passes : Passes (items 8 s true (x .width) (x .count) (x .place))
+
+abbrev pub unitsIn : List ℕ → Chars → List ℕ
+unitsIn s x = listOf (items 8 s true (x .width) (x .count) (x .place))
+
+-- the same characters, the first of them in this segment
+pub record Ready (s : List ℕ) (x r : Chars) : Type 0 where
+  pub readable : Readable s r
+  pub count : r .count ≡ x .count
+  pub units : unitsIn s x ≡ unitsIn s r
+  pub here : r .width ≤ r .place .end - r .place .at
+
+abbrev pub pastBy : Chars → ℕ → ℕ → Chars
+pastBy x k b = record { count = x .count - k; width = x .width; place = on (x .place) b }
+
+pub record RunFits (here w there v n : ℕ) (r : Run) : Type 0 where
+  pub here-fits : Fits here w n (r .count) (r .first)
+  pub there-fits : Fits there v n (r .count) (r .second)
+
+-- characters that stand there, with these units
+pub record ReadAs (s : List ℕ) (x : Chars) (us : List ℕ) : Type 0 where
+  pub readable : Readable s x
+  pub units : unitsIn s x ≡ us
+
+abbrev pub noChars : Chars
+noChars = record { count = 0; width = 1; place = record { seg = 0; at = 0; end = 0 } }

@@ -1,0 +1,327 @@
+// Characters compared: those of two shared strings, wherever their segments part them, those of two names, and those of two text results.
+ghost use mathlib.Core.Path.{_≡_};
+ghost use Prim.Native.Nat.{_+_, _-_, _*_, _/_, _≤_};
+ghost use lib.ListN.{length};
+ghost use Rattle.segments.specs.Segments.{listOf};
+ghost use Rattle.segments.specs.Parts.{Inside, Passes, nums};
+ghost use Rattle.text_result.specs.TextResult.{isText, stringAt, textAt};
+ghost use Rattle.reading.specs.Reading.{saysText, textAfter};
+ghost use Rattle.differences.specs.Differences.{same, charsOf};
+ghost use Rattle.differences.specs.Units.{unitsBy};
+ghost use Rattle.text_equality.specs.Characters.{Readable, unitsIn, Ready, pastBy, RunFits, ReadAs, noChars};
+use record::Header;
+use segments::Cursor;
+use segments::Moved;
+use segments::Room;
+use value::CellValue;
+use value::FormulaResult;
+
+// The characters of a string: how many, the bytes of the first one, and where they start.
+pub struct Chars {
+    pub count: usize,
+    pub width: usize,
+    pub place: Cursor,
+}
+
+// So many characters stand together in both segments, with their bytes in the one and in the other.
+struct Run {
+    count: usize,
+    first: usize,
+    second: usize,
+}
+
+// As many of n characters as stand together in both segments.
+fn run_of(here: usize, w: usize, there: usize, v: usize, n: usize) -> Run
+    requires { ⌜ (1 ≤ w) × (w ≤ here) × (1 ≤ v) × (v ≤ there) × (1 ≤ n) ⌝ }
+    ensures { λ r. ⌜ RunFits here w there v n r ⌝ }
+{
+    let k = segments::fit_items(here, w, n);
+    let m = segments::fit_items(there, v, k.count);
+    Run {
+        count: m.count,
+        first: m.count * w,
+        second: m.bytes,
+    }
+}
+
+// So many of k characters at p and at q are the same, where both have w bytes: those in the words of eight bytes that agree. A long string goes by words.
+fn same_words(s: &[u8], w: usize, p: usize, t: &[u8], v: usize, q: usize, k: usize) -> usize
+    requires { ⌜ (1 ≤ w) × (w ≤ 2) × (p + k * w ≤ length (now s)) × (1 ≤ v) × (v ≤ 2) × (q + k * v ≤ length (now t)) ⌝ }
+    ensures { λ r. ⌜ (r ≤ k) × (same (nums (now (s .entry)) w k p) (nums (now (t .entry)) v k q) ≡ same (nums (now (s .entry)) w (k - r) (p + r * w)) (nums (now (t .entry)) v (k - r) (q + r * v))) ⌝ }
+{
+    if w != v {
+        return 0;
+    }
+    let word = chars_in(8, w);
+    let mut a = p;
+    let mut b = q;
+    let mut done = 0;
+    while word <= k - done {
+        if bytes::u64_at(s, a) != bytes::u64_at(t, b) {
+            return done;
+        }
+        a += 8;
+        b += 8;
+        done += word;
+    }
+    done
+}
+
+// Whether k characters of w bytes at p are those of v bytes at q.
+fn same_run(s: &[u8], w: usize, p: usize, t: &[u8], v: usize, q: usize, k: usize) -> bool
+    requires { ⌜ (1 ≤ w) × (w ≤ 2) × (p + k * w ≤ length (now s)) × (1 ≤ v) × (v ≤ 2) × (q + k * v ≤ length (now t)) ⌝ }
+    ensures { λ r. ⌜ r ≡ same (nums (now (s .entry)) w k p) (nums (now (t .entry)) v k q) ⌝ }
+{
+    let done = same_words(s, w, p, t, v, q, k);
+    let mut a = p + done * w;
+    let mut b = q + done * v;
+    let mut left = k - done;
+    while 0 < left {
+        if segments::unit_at(s, w, a) != segments::unit_at(t, v, b) {
+            return false;
+        }
+        a += w;
+        b += v;
+        left -= 1;
+    }
+    true
+}
+
+// The same characters, from where the first of them stands.
+fn room_of(s: &[u8], x: Chars) -> Chars
+    requires { ⌜ Readable (now s) x × (1 ≤ x .count) ⌝ }
+    ensures { λ r. ⌜ Ready (now (s .entry)) x r ⌝ }
+{
+    match segments::room_for(s, 8, true, x.width, x.place) {
+        Room::Refused {
+            number: _,
+            offset: _,
+        } => x,
+        Room::At { width, place } => Chars {
+            count: x.count,
+            width,
+            place,
+        },
+    }
+}
+
+// The characters after the first `count`, which have so many bytes.
+fn past(x: Chars, count: usize, bytes: usize) -> Chars
+    requires { ⌜ (count ≤ x .count) × (x .place .at + bytes ≤ x .place .end) ⌝ }
+    ensures { λ r. ⌜ r ≡ pastBy x count bytes ⌝ }
+{
+    let c = x.place;
+    Chars {
+        count: x.count - count,
+        width: x.width,
+        place: Cursor {
+            seg: c.seg,
+            at: c.at + bytes,
+            end: c.end,
+        },
+    }
+}
+
+// Whether two strings have the same characters.
+pub fn same_chars(s: &[u8], x: Chars, t: &[u8], y: Chars) -> bool
+    requires { ⌜ Readable (now s) x × Readable (now t) y ⌝ }
+    ensures { λ r. ⌜ r ≡ same (unitsIn (now (s .entry)) x) (unitsIn (now (t .entry)) y) ⌝ }
+{
+    if x.count != y.count {
+        return false;
+    }
+    let mut c = x;
+    let mut d = y;
+    loop {
+        if c.count == 0 {
+            return true;
+        }
+        let a = room_of(s, c);
+        let b = room_of(t, d);
+        let e = a.place;
+        let f = b.place;
+        let k = run_of(e.end - e.at, a.width, f.end - f.at, b.width, a.count);
+        if same_run(s, a.width, e.at, t, b.width, f.at, k.count) {
+            c = past(a, k.count, k.first);
+            d = past(b, k.count, k.second);
+        } else {
+            return false;
+        }
+    }
+}
+
+// How many characters of w bytes there are in n bytes.
+fn chars_in(n: usize, w: usize) -> usize
+    requires { ⌜ (1 ≤ w) × (w ≤ 2) ⌝ }
+    ensures { λ r. ⌜ r ≡ n / w ⌝ }
+{
+    if w == 1 {
+        return n;
+    }
+    n / 2
+}
+
+// Whether two names, of w and v bytes a character, have the same characters.
+pub fn same_name(a: &[u8], w: usize, b: &[u8], v: usize) -> bool
+    requires { ⌜ (1 ≤ w) × (w ≤ 2) × (1 ≤ v) × (v ≤ 2) ⌝ }
+    ensures { λ r. ⌜ r ≡ same (charsOf (now (a .entry)) w) (charsOf (now (b .entry)) v) ⌝ }
+{
+    let n = chars_in(a.len(), w);
+    if n != chars_in(b.len(), v) {
+        return false;
+    }
+    same_run(a, w, 0, b, v, 0, n)
+}
+
+// ---- text results
+
+fn none() -> Chars
+    ensures { λ r. ⌜ r ≡ noChars ⌝ }
+{
+    Chars {
+        count: 0,
+        width: 1,
+        place: Cursor {
+            seg: 0,
+            at: 0,
+            end: 0,
+        },
+    }
+}
+
+// The characters of the string at c, of which nothing is refused.
+fn string_chars(s: &[u8], c: Cursor) -> Chars
+    requires { ⌜ Inside (now s) c × Passes (stringAt (now s) c) ⌝ }
+    ensures { λ r. ⌜ ReadAs (now (s .entry)) r (listOf (stringAt (now (s .entry)) c)) ⌝ }
+{
+    let p = c.at;
+    if c.end - p < 3 {
+        return none();
+    }
+    Chars {
+        count: bytes::u16_as_usize(bytes::u16_at(s, p)),
+        width: segments::width_of(s[p + 2]),
+        place: Cursor {
+            seg: c.seg,
+            at: p + 3,
+            end: c.end,
+        },
+    }
+}
+
+// None where anything of it is refused.
+fn chars_if(s: &[u8], c: Cursor) -> Chars
+    requires { ⌜ Inside (now s) c ⌝ }
+    ensures { λ r. ⌜ ReadAs (now (s .entry)) r (listOf (stringAt (now (s .entry)) c)) ⌝ }
+{
+    match text_result::skip_string(s, c) {
+        Moved::Refused {
+            number: _,
+            offset: _,
+        } => none(),
+        Moved::To(_) => string_chars(s, c),
+    }
+}
+
+// Of the formula at f, whose STRING is looked for at p.
+fn chars_from(s: &[u8], f: usize, p: usize) -> Chars
+    requires { ⌜ p ≤ length (now s) ⌝ }
+    ensures { λ r. ⌜ ReadAs (now (s .entry)) r (listOf (textAt (now (s .entry)) f p)) ⌝ }
+{
+    if text_result::is_string(s, p) {
+        match record::header_at(s, p) {
+            Header::Record {
+                kind: _,
+                size: _,
+                end,
+            } => {
+                return chars_if(
+                    s,
+                    Cursor {
+                        seg: p,
+                        at: p + 4,
+                        end,
+                    },
+                );
+            }
+            Header::Cut => {
+                return none();
+            }
+            Header::End => {
+                return none();
+            }
+        }
+    }
+    none()
+}
+
+// Of the formula whose header is at f.
+fn chars_after(s: &[u8], f: usize) -> Chars
+    ensures { λ r. ⌜ ReadAs (now (s .entry)) r (textAfter (now (s .entry)) f) ⌝ }
+{
+    match record::header_at(s, f) {
+        Header::Record {
+            kind: _,
+            size: _,
+            end,
+        } => chars_from(s, f, text_result::string_place(s, end)),
+        Header::Cut => none(),
+        Header::End => none(),
+    }
+}
+
+fn result_says(r: FormulaResult) -> bool
+    ensures { λ x. ⌜ x ≡ isText r ⌝ }
+{
+    match r {
+        FormulaResult::Number(_) => false,
+        FormulaResult::NotNumber(_) => false,
+        FormulaResult::Text => true,
+        FormulaResult::Truth(_) => false,
+        FormulaResult::Error(_) => false,
+        FormulaResult::Empty => false,
+    }
+}
+
+fn value_says(v: CellValue) -> bool
+    ensures { λ x. ⌜ x ≡ saysText v ⌝ }
+{
+    match v {
+        CellValue::Blank => false,
+        CellValue::Number(_) => false,
+        CellValue::NotNumber(_) => false,
+        CellValue::Text(_) => false,
+        CellValue::Truth(_) => false,
+        CellValue::Error(_) => false,
+        CellValue::Formula(r) => result_says(r),
+    }
+}
+
+// Where the header of a formula is whose value field is at `field`.
+fn header_of(field: usize) -> usize
+    ensures { λ r. ⌜ r ≡ field - 10 ⌝ }
+{
+    if field < 10 {
+        return 0;
+    }
+    field - 10
+}
+
+// The characters of the text result of a cell with this value, whose value field is at `field`.
+fn result_chars(s: &[u8], v: CellValue, field: usize) -> Chars
+    ensures { λ r. ⌜ ReadAs (now (s .entry)) r (unitsBy (now (s .entry)) v field) ⌝ }
+{
+    if value_says(v) {
+        return chars_after(s, header_of(field));
+    }
+    none()
+}
+
+// Whether the text results of two cells, with these values and their fields at a and at b, have the same units; a cell without one has none.
+pub fn same_result(s: &[u8], v: CellValue, a: usize, t: &[u8], w: CellValue, b: usize) -> bool
+    ensures { λ r. ⌜ r ≡ same (unitsBy (now (s .entry)) v a) (unitsBy (now (t .entry)) w b) ⌝ }
+{
+    let x = result_chars(s, v, a);
+    let y = result_chars(t, w, b);
+    same_chars(s, x, t, y)
+}

@@ -1,0 +1,4 @@
+pub mod Bits
+pub mod Tokens
+pub mod Within
+pub mod Formula

@@ -1,0 +1,3 @@
+pub mod Bofs
+pub mod Laws
+pub mod Following

@@ -1,0 +1,3 @@
+pub mod TopLevel
+pub mod Tops
+pub mod Parts
