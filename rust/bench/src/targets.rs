@@ -15,8 +15,8 @@ const TINY: Targets = Targets([1.0, 1.5, 2.1]);
 /// stream that is longer than one window of slots takes more. In time it is about 1.
 const REVERSED: Targets = Targets([1.8, 1.7, 1.7]);
 
-/// For a stream without its unused strings, against the second reader, which keeps all strings and indices in vectors; measured 2.02.
-pub const COMPACTING: f64 = 2.1;
+/// For a stream without its unused strings, against the second reader, which keeps all strings and indices in vectors; measured 1.58.
+pub const COMPACTING: f64 = 1.7;
 
 impl Targets {
     pub fn of(kind: Big) -> Self {
