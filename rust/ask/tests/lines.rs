@@ -1,7 +1,7 @@
 //! ask as another reader meets it: a process that is given lines and answers with lines. What it must answer is written down after document 01, stored
 //! with the cases, or taken from the second reader.
 
-use second_reader::{Address, Between, Difference, PairRefusal, Refusal, Side, Value, Whose};
+use second_reader::{Between, PairRefusal, Refusal, Side, Value, Whose};
 use std::fs;
 use std::io::{BufRead, BufReader, Write};
 use std::path::{Path, PathBuf};
@@ -302,16 +302,6 @@ fn two_cases_compared() {
     assert_eq!(*second, first.replace("first", "second"));
 }
 
-fn line_of(difference: &Difference) -> String {
-    let of = |word: &str, at: &Address| format!("{word} {} {} {}", at.sheet, at.row, at.column);
-    match difference {
-        Difference::Name { sheet } => format!("name {sheet}"),
-        Difference::First(at) => of("first", at),
-        Difference::Second(at) => of("second", at),
-        Difference::Unequal(at) => of("unequal", at),
-    }
-}
-
 #[test]
 fn made_revisions() {
     let mut questions = Vec::new();
@@ -323,7 +313,7 @@ fn made_revisions() {
             Ok(differences) if differences.is_empty() => "same".to_string(),
             Ok(differences) => differences
                 .iter()
-                .map(line_of)
+                .map(ToString::to_string)
                 .collect::<Vec<_>>()
                 .join(" ; "),
             Err(refusal) => {

@@ -1,6 +1,6 @@
 //! A stream without its unused strings: how long the proved library takes, and the second reader, which makes the whole new stream in vectors first.
 
-use crate::{instructions, targets, Best, ASSERTED_BYTES, BYTES};
+use crate::{instructions, targets, time, ASSERTED_BYTES, BYTES};
 use std::time::Instant;
 use streams::Big;
 
@@ -26,18 +26,18 @@ pub fn theirs(stream: &[u8]) -> u64 {
 
 /// Both in turn, the best of some; whether they gave the same.
 fn measure(name: &str, stream: &[u8]) -> bool {
-    let mut best = [Best(f64::INFINITY); 2];
+    let mut best = [f64::INFINITY; 2];
     let mut same = true;
     let start = Instant::now();
     for _ in 0..TURNS {
-        let one = best[0].time(ours, stream);
-        same &= one != 0 && one == best[1].time(theirs, stream);
+        let one = time(&mut best[0], || ours(stream));
+        same &= one != 0 && one == time(&mut best[1], || theirs(stream));
         // What is dear is asked once.
         if start.elapsed().as_secs() > 3 {
             break;
         }
     }
-    let [ours, theirs] = best.map(|best| best.0);
+    let [ours, theirs] = best;
     println!(
         "{name}: {ours:.1} ms against {theirs:.1} ms, ratio {:.2}{}",
         ours / theirs,

@@ -3,7 +3,7 @@
 
 mod plain;
 
-use crate::BYTES;
+use crate::{time, BYTES};
 use station::{DifferenceKind, FormulaResult, NewValue, Value};
 use std::time::Instant;
 use streams::{Big, Hostile};
@@ -72,14 +72,6 @@ fn revised(stream: &[u8]) -> Vec<u8> {
         granted.expect("a cell that takes it");
     }
     next
-}
-
-/// Milliseconds.
-fn time<A>(best: &mut f64, work: impl FnOnce() -> A) -> A {
-    let start = Instant::now();
-    let answer = work();
-    *best = best.min(start.elapsed().as_secs_f64() * 1e3);
-    answer
 }
 
 /// Two revisions, the best of some turns.

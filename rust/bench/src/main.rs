@@ -34,17 +34,13 @@ const BYTES: usize = 16_000_000;
 const ASSERTED_BYTES: usize = 1_000_000;
 const TURNS: usize = 25;
 
-/// The shortest of many times, in milliseconds.
-#[derive(Clone, Copy)]
-struct Best(f64);
-
-impl Best {
-    fn time(&mut self, work: fn(&[u8]) -> u64, stream: &[u8]) -> u64 {
-        let start = Instant::now();
-        let answer = work(stream);
-        self.0 = self.0.min(start.elapsed().as_secs_f64() * 1e3);
-        answer
-    }
+/// Does a piece of work, and keeps the shortest of its times, in milliseconds. Not inlined: what it does is done anew in each turn.
+#[inline(never)]
+fn time<A>(best: &mut f64, work: impl FnOnce() -> A) -> A {
+    let start = Instant::now();
+    let answer = work();
+    *best = best.min(start.elapsed().as_secs_f64() * 1e3);
+    answer
 }
 
 const HEADING: &str = "\
@@ -54,16 +50,16 @@ const HEADING: &str = "\
 /// A row of the table; whether all gave the same answers.
 fn measure(kind: Big) -> bool {
     let stream = streams::big(kind, BYTES);
-    let mut best = [Best(f64::INFINITY); 5];
+    let mut best = [f64::INFINITY; 5];
     let mut same = true;
     for _ in 0..TURNS {
-        let checked = best[0].time(listers::check_ours, &stream);
-        same &= checked == best[1].time(listers::check_plain, &stream);
-        let listed = best[2].time(listers::list_ours, &stream);
-        same &= listed == best[3].time(listers::list_plain, &stream);
-        same &= listed == best[4].time(listers::list_joined, &stream);
+        let checked = time(&mut best[0], || listers::check_ours(&stream));
+        same &= checked == time(&mut best[1], || listers::check_plain(&stream));
+        let listed = time(&mut best[2], || listers::list_ours(&stream));
+        same &= listed == time(&mut best[3], || listers::list_plain(&stream));
+        same &= listed == time(&mut best[4], || listers::list_joined(&stream));
     }
-    let [check, check_plain, list, list_plain, list_joined] = best.map(|best| best.0);
+    let [check, check_plain, list, list_plain, list_joined] = best;
     let [checks, to_plain, to_joined] = match Counts::of(&stream) {
         Some(counts) => Targets::ratios(&counts).map(|ratio| format!("{ratio:.2}")),
         None => ["", "", ""].map(String::from),

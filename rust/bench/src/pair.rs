@@ -1,20 +1,9 @@
 //! Questions over a template and a session, each of 16,000,000 bytes, against two plain checks: a question makes both checks and no more. In turn, the best of many.
 
+use crate::{time, BYTES, TURNS};
 use station::pair::{self, Whose};
 use station::NewValue;
-use std::time::Instant;
 use streams::Big;
-
-const BYTES: usize = 16_000_000;
-const TURNS: usize = 25;
-
-/// Milliseconds.
-fn time<A>(best: &mut f64, work: impl FnOnce() -> A) -> A {
-    let start = Instant::now();
-    let answer = work();
-    *best = best.min(start.elapsed().as_secs_f64() * 1e3);
-    answer
-}
 
 fn measure(kind: Big) -> bool {
     let template = streams::big(kind, BYTES);

@@ -2,7 +2,7 @@
 //! each fiftieth of them the best of many, so that other work on the machine counts little. The streams are as long as one may be: one with a fifth of
 //! strings, and one of nothing but strings, all empty.
 
-use std::time::Instant;
+use crate::time;
 use streams::Big;
 
 const BYTES: usize = 16_777_216;
@@ -83,14 +83,6 @@ fn look_up(indices: &[u32], mut fetch: impl FnMut(u32, &mut [u16]) -> Option<usi
         sum = sum.rotate_left(5) ^ (units.len() as u64) << 32 ^ first << 16 ^ last;
     }
     sum
-}
-
-/// Milliseconds.
-fn time<A>(best: &mut f64, work: impl FnOnce() -> A) -> A {
-    let start = Instant::now();
-    let answer = work();
-    *best = best.min(start.elapsed().as_secs_f64() * 1e3);
-    answer
 }
 
 fn measure(kind: Big) -> bool {

@@ -1,8 +1,9 @@
 //! Streams without their unused strings, of one stream and over a pair: every answer with every lent byte; and what holds of the new stream: nothing differs from
 //! the old one, and made anew it is the same.
 
+use super::pairs::{our_refusal, their_refusal, Refused};
 use super::{ours, theirs, Comparison, Counts, Wanted};
-use second_reader::{PairRefusal, Whose};
+use second_reader::Whose;
 use station::pair;
 use station::Value;
 use streams::Pair;
@@ -63,7 +64,7 @@ impl Met {
 }
 
 /// How long the new stream is and how many bytes are freed; or whose refusal, its number and its offset.
-type Answer = Result<(usize, i64), (Option<Whose>, u8, usize)>;
+type Answer = Result<(usize, i64), Refused>;
 
 /// The questions on one stream, or on a session over its template.
 #[derive(Clone, Copy)]
@@ -77,13 +78,7 @@ impl Asked<'_> {
         let answer = match self.template {
             None => ours(station::compact(self.stream, buffer))
                 .map_err(|(number, offset)| (None, number, offset)),
-            Some(template) => pair::compact(template, self.stream, buffer).map_err(|refused| {
-                let whose = refused.whose.map(|whose| match whose {
-                    pair::Whose::Session => Whose::Session,
-                    pair::Whose::Template => Whose::Template,
-                });
-                (whose, refused.refusal.number, refused.refusal.offset)
-            }),
+            Some(template) => pair::compact(template, self.stream, buffer).map_err(our_refusal),
         };
         answer.map(|done| (done.written, done.freed))
     }
@@ -92,19 +87,15 @@ impl Asked<'_> {
         let answer = match self.template {
             None => theirs(second_reader::compact(self.stream, buffer))
                 .map_err(|(number, offset)| (None, number, offset)),
-            Some(template) => second_reader::compact_session(template, self.stream, buffer)
-                .map_err(|refused| match refused {
-                    PairRefusal::Stream(whose, refusal) => {
-                        (Some(whose), refusal.number, refusal.offset)
-                    }
-                    PairRefusal::Question(refusal) => (None, refusal.number, refusal.offset),
-                }),
+            Some(template) => {
+                second_reader::compact_session(template, self.stream, buffer).map_err(their_refusal)
+            }
         };
         answer.map(|done| (done.written, done.freed))
     }
 
     /// The second reader's new stream, into a buffer with room for any that these streams may get.
-    fn new_stream(self) -> Result<Vec<u8>, (Option<Whose>, u8, usize)> {
+    fn new_stream(self) -> Result<Vec<u8>, Refused> {
         let mut buffer = vec![BYTE; 2 * self.stream.len() + 100];
         let (written, _) = self.theirs(&mut buffer)?;
         buffer.truncate(written);

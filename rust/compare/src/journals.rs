@@ -1,5 +1,6 @@
 //! The journal of corrections and its replay, of one stream and over a pair: every answer, with every byte of stream and journal.
 
+use super::pairs::{our_refusal, their_refusal};
 use super::{values, Comparison, Counts, Wanted};
 use second_reader::{PairRefusal, PairUnreplayed, Refusal, Unreplayed, Whose};
 use station::journal::{self, Journal, ENTRY};
@@ -34,11 +35,8 @@ fn one(refusal: station::Refusal) -> Refused {
 }
 
 fn over(refused: pair::Refused) -> Refused {
-    let whose = refused.whose.map(|whose| match whose {
-        pair::Whose::Session => Whose::Session,
-        pair::Whose::Template => Whose::Template,
-    });
-    Refused::At(whose, refused.refusal.number, refused.refusal.offset)
+    let (whose, number, offset) = our_refusal(refused);
+    Refused::At(whose, number, offset)
 }
 
 fn stopped<R>(unreplayed: journal::Unreplayed<R>, refused: impl FnOnce(R) -> Refused) -> Refused {
@@ -53,12 +51,8 @@ fn their_one(refusal: Refusal) -> Refused {
 }
 
 fn their_over(refused: PairRefusal) -> Refused {
-    match refused {
-        PairRefusal::Stream(whose, refusal) => {
-            Refused::At(Some(whose), refusal.number, refusal.offset)
-        }
-        PairRefusal::Question(refusal) => their_one(refusal),
-    }
+    let (whose, number, offset) = their_refusal(refused);
+    Refused::At(whose, number, offset)
 }
 
 /// What is lent, for one of the readers.

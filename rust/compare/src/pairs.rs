@@ -13,7 +13,9 @@ const UNIT: u16 = 0xABCD;
 const TURNS: u64 = 4;
 
 /// Whose refusal, its number and its offset.
-type Outcome<A> = Result<A, (Option<Whose>, u8, usize)>;
+pub type Refused = (Option<Whose>, u8, usize);
+
+type Outcome<A> = Result<A, Refused>;
 
 fn of_pair(whose: pair::Whose) -> Whose {
     match whose {
@@ -22,18 +24,24 @@ fn of_pair(whose: pair::Whose) -> Whose {
     }
 }
 
+pub fn our_refusal(refused: pair::Refused) -> Refused {
+    let refusal = refused.refusal;
+    (refused.whose.map(of_pair), refusal.number, refusal.offset)
+}
+
+pub fn their_refusal(refused: PairRefusal) -> Refused {
+    match refused {
+        PairRefusal::Stream(whose, refusal) => (Some(whose), refusal.number, refusal.offset),
+        PairRefusal::Question(refusal) => (None, refusal.number, refusal.offset),
+    }
+}
+
 fn ours<A>(answer: Result<A, pair::Refused>) -> Outcome<A> {
-    answer.map_err(|refused| {
-        let refusal = refused.refusal;
-        (refused.whose.map(of_pair), refusal.number, refusal.offset)
-    })
+    answer.map_err(our_refusal)
 }
 
 fn theirs<A>(answer: Result<A, PairRefusal>) -> Outcome<A> {
-    answer.map_err(|refused| match refused {
-        PairRefusal::Stream(whose, refusal) => (Some(whose), refusal.number, refusal.offset),
-        PairRefusal::Question(refusal) => (None, refusal.number, refusal.offset),
-    })
+    answer.map_err(their_refusal)
 }
 
 /// How often each answer was met: refusals of the template, of the session, and of the question; 0 counts the answers without one.

@@ -7,6 +7,7 @@ use crate::survey::Survey;
 use crate::Refusal;
 use std::cmp::Ordering;
 use std::collections::HashMap;
+use std::fmt;
 
 /// One of the two streams.
 #[derive(Clone, Copy, Debug, PartialEq, Eq)]
@@ -51,6 +52,20 @@ pub enum Difference {
     Second(Address),
     /// Both have a cell here, with unequal values.
     Unequal(Address),
+}
+
+/// A line: `name SHEET`, or `first`, `second` or `unequal` with sheet, row and
+/// column.
+impl fmt::Display for Difference {
+    fn fmt(&self, f: &mut fmt::Formatter<'_>) -> fmt::Result {
+        let (word, at) = match self {
+            Difference::Name { sheet } => return write!(f, "name {sheet}"),
+            Difference::First(at) => ("first", at),
+            Difference::Second(at) => ("second", at),
+            Difference::Unequal(at) => ("unequal", at),
+        };
+        write!(f, "{word} {} {} {}", at.sheet, at.row, at.column)
+    }
 }
 
 /// Checks both streams, then that neither has an address twice in one sheet,

@@ -3,7 +3,7 @@
 use crate::made::{self, blank, error, number, one, text, units, Sheet, CHART, WORKSHEET};
 use crate::tool::{case, finish, run, run_with, Folder, Ran, TOOL};
 use crate::words;
-use second_reader::{Address, Difference, Side};
+use second_reader::Side;
 use std::ffi::{OsStr, OsString};
 use std::fs;
 use std::path::Path;
@@ -541,16 +541,6 @@ fn reported_many() {
     assert!(page.len() < 16_000_000, "{} bytes", page.len());
 }
 
-fn line_of(difference: &Difference) -> String {
-    let of = |word: &str, at: &Address| format!("{word} {} {} {}", at.sheet, at.row, at.column);
-    match difference {
-        Difference::Name { sheet } => format!("name {sheet}"),
-        Difference::First(at) => of("first", at),
-        Difference::Second(at) => of("second", at),
-        Difference::Unequal(at) => of("unequal", at),
-    }
-}
-
 /// Whether the same stands before and after the arrow, wherever the values begin: a name or a text may have blanks and arrows in it.
 fn shows_one_value_twice(line: &str) -> bool {
     line.match_indices("  ").any(|(at, _)| {
@@ -587,7 +577,7 @@ fn made_revisions() {
             }
             Ok(differences) => {
                 met[2] += 1;
-                let lines: Vec<_> = differences.iter().map(line_of).collect();
+                let lines: Vec<_> = differences.iter().map(ToString::to_string).collect();
                 ran.says(0, &format!("{}\n", lines.join("\n")));
                 let people = pair.compare::<&str>(&[]);
                 assert_eq!(people.text().lines().count(), lines.len(), "seed {seed}");
