@@ -247,6 +247,7 @@ fn with_words(
 }
 
 // A stream that passes with these globals, without its unused strings: the flags and ranks of 212,992 strings at a time.
+// Only this crate and `pair_compact` call it, each after the check.
 pub fn compact_checked(s: &[u8], g: Globals, out: &mut [u8]) -> Compacted
     requires { ⌜ Passed (now s) g ⌝ }
     ensures { λ r. ⌜ r ≡ answerTo (compactedOf (now (s .entry)) g) (now (out .entry)) ⌝ }

@@ -134,7 +134,7 @@ pub fn journal_fits(j: &[u8], len: usize, unique: u32) -> bool
 }
 
 // There is room for one more entry, and the count can grow.
-pub fn room_for(j: &[u8]) -> bool
+fn room_for(j: &[u8]) -> bool
     requires { ⌜ 16 ≤ length (now j) ⌝ }
     ensures { λ r. ⌜ r ≡ roomFor (now (j .entry)) ⌝ }
     ensures { λ r. ⌜ RoomIf (now (j .entry)) r ⌝ }
@@ -152,6 +152,7 @@ pub fn room_for(j: &[u8]) -> bool
 
 // ---- what is written
 // The number of the value field of this kind at a place: an entry's old bytes.
+// Only this crate and `replay_entry` call it, each for the field of a cell that was found.
 pub fn field_number(s: &[u8], kind: Field, at: usize) -> u64
     requires { ⌜ at + widthOf kind ≤ length (now s) ⌝ }
     ensures { λ r. ⌜ r ≡ numAt (now (s .entry)) (widthOf kind) at ⌝ }
@@ -166,7 +167,7 @@ pub fn field_number(s: &[u8], kind: Field, at: usize) -> u64
     }
 }
 
-pub fn put_header(j: &mut [u8], len: usize, unique: u32)
+fn put_header(j: &mut [u8], len: usize, unique: u32)
     requires { ⌜ (16 ≤ length (now j)) × (len ≤ 16777216) ⌝ }
     ensures { λ _. ⌜ now (j .exit) ≡ header len unique (now (j .entry)) ⌝ }
 {
@@ -214,7 +215,7 @@ fn put_entry(
 }
 
 // One entry more, and its count.
-pub fn append_entry(
+fn append_entry(
     j: &mut [u8],
     sheet: u32,
     row: u32,

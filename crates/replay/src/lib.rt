@@ -313,7 +313,7 @@ fn first_byte(j: &[u8]) -> u8
 }
 
 // Replay a journal on a stream that passes, with `unique` strings, backwards where `back` is true; `sheets` is how many sheets the template has. Entries before
-// one that is refused stay made. It stays out of its callers' frames, which have a check below them: a check and the batch's tables together would be too deep.
+// one that is refused stay made. Only this crate and `pair_journal` call it, each after the check. It stays out of its callers' frames, which have a check below them: a check and the batch's tables together would be too deep.
 pub fn replay_in(s: &mut [u8], j: &[u8], unique: u32, sheets: usize, back: bool) -> Replayed
     requires { ⌜ (length (now s) ≤ 16777216) × Passes (now s) unique ⌝ }
     ensures { λ r. ⌜ r ≡ answerReplayed (countIn (now (j .entry))) (replayIn (now (s .entry)) unique sheets (now (j .entry)) back) ⌝ }
