@@ -173,21 +173,40 @@ impl<'s> TableWriter<'s> {
 
     /// A string of one byte a character, split where a segment ends.
     pub fn narrow_string(&mut self, characters: &[u8]) {
-        if self.room() < 4 {
+        self.split_string(characters, false, LONGEST_BODY);
+    }
+
+    /// A string of two bytes a character, split where a segment ends.
+    pub fn wide_string(&mut self, characters: &[u8]) {
+        self.split_string(characters, true, LONGEST_BODY);
+    }
+
+    /// A string of one byte a character, with a segment for each.
+    pub fn shredded_string(&mut self, characters: &[u8]) {
+        self.split_string(characters, false, 1);
+    }
+
+    /// A string with at most so many of its characters in a segment.
+    fn split_string(&mut self, characters: &[u8], wide: bool, most: usize) {
+        let width = 1 + usize::from(wide);
+        if self.room() < 3 + width {
             self.next_segment();
         }
         self.stream.extend((characters.len() as u16).to_le_bytes());
-        self.stream.push(0);
+        self.stream.push(u8::from(wide));
         let mut left = characters;
         loop {
-            let (part, rest) = left.split_at(left.len().min(self.room()));
-            self.stream.extend(part);
+            let count = left.len().min(self.room() / width).min(most);
+            let (part, rest) = left.split_at(count);
+            for &character in part {
+                self.stream.extend(&[character, 0][..width]);
+            }
             left = rest;
             if left.is_empty() {
                 break;
             }
             self.next_segment();
-            self.stream.push(0);
+            self.stream.push(u8::from(wide));
         }
         self.unique += 1;
     }

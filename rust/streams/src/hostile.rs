@@ -9,22 +9,39 @@ use crate::rng::Rng;
 /// What such a stream is made of, all in one worksheet.
 #[derive(Clone, Copy, Debug, PartialEq, Eq, Hash)]
 pub enum Hostile {
-    /// NUMBER cells in any order.
+    /// NUMBER cells in any order, row after row without a gap.
     AnyOrder,
+    /// NUMBER cells in any order, anywhere in the sheet.
+    Anywhere,
+    /// NUMBER cells in any order, in clusters that lie far apart.
+    Clusters,
     /// MULBLANK records of 256 cells, the last row first.
     RowsReversed,
     /// Text cells that all show one of two equal strings of 65,535 characters.
     LongStrings,
+    /// The same, of one byte a character in one stream and of two in the other.
+    TwoWidths,
+    /// Text cells that each show one of 300 equal long strings.
+    ManyLongStrings,
+    /// Text cells that each show one of 300 equal strings, with a segment for
+    /// each character.
+    ShortSegments,
     /// Half of strings of one character, half of text cells, each with any one.
+    /// The first string is another in each stream.
     ManyStrings,
 }
 
 impl Hostile {
     /// All of them.
-    pub const ALL: [Hostile; 4] = [
+    pub const ALL: [Hostile; 9] = [
         Hostile::AnyOrder,
+        Hostile::Anywhere,
+        Hostile::Clusters,
         Hostile::RowsReversed,
         Hostile::LongStrings,
+        Hostile::TwoWidths,
+        Hostile::ManyLongStrings,
+        Hostile::ShortSegments,
         Hostile::ManyStrings,
     ];
 }
@@ -33,6 +50,10 @@ const NUMBER_SIZE: usize = HEADER_SIZE + 14;
 const TEXT_SIZE: usize = HEADER_SIZE + 10;
 const BLANKS_SIZE: usize = HEADER_SIZE + 6 + 2 * 256;
 const MOST_ROWS: usize = 65_536;
+const ADDRESSES: usize = MOST_ROWS * 256;
+const CLUSTER: usize = 3_700;
+const LONGEST: usize = 65_535;
+const LONG_STRINGS: usize = 300;
 
 /// A valid stream of about so many bytes, of as many where there are rows for
 /// it. `turn` is 0 or 1, of one pair of streams; both have the same cells.
@@ -41,48 +62,88 @@ pub(crate) fn make(hostile: Hostile, bytes: usize, turn: u32) -> Vec<u8> {
     let mut stream = Vec::with_capacity(bytes);
     append_bof(&mut stream, bof::GLOBALS);
     append_boundsheet(&mut stream, 0);
-    let unique = append_table(&mut stream, hostile, bytes);
+    let unique = append_table(&mut stream, hostile, bytes, turn);
     append_header(&mut stream, kind::EOF, 0);
     let position = (stream.len() as u32).to_le_bytes();
     stream[BOF_SIZE + HEADER_SIZE..][..4].copy_from_slice(&position);
     append_bof(&mut stream, bof::WORKSHEET);
     let room = bytes.saturating_sub(stream.len() + EOF_SIZE);
+    let numbers = room / NUMBER_SIZE;
+    let texts = room / TEXT_SIZE;
     match hostile {
-        Hostile::AnyOrder => append_numbers(&mut rng, &mut stream, room / NUMBER_SIZE),
+        Hostile::AnyOrder => append_numbers(&mut rng, &mut stream, (0..numbers).collect()),
+        Hostile::Anywhere => append_numbers(&mut rng, &mut stream, spread(numbers, 1)),
+        Hostile::Clusters => append_numbers(&mut rng, &mut stream, spread(numbers, CLUSTER)),
         Hostile::RowsReversed => {
             let rows = (room / BLANKS_SIZE).min(MOST_ROWS);
             (0..rows)
                 .rev()
                 .for_each(|row| append_blanks(&mut stream, row));
         }
-        Hostile::LongStrings => append_texts(&mut stream, room / TEXT_SIZE, || turn),
-        Hostile::ManyStrings => append_texts(&mut stream, room / TEXT_SIZE, || {
-            rng.below(unique as usize) as u32
+        Hostile::LongStrings | Hostile::TwoWidths => append_texts(&mut stream, texts, || turn),
+        Hostile::ManyLongStrings | Hostile::ShortSegments => {
+            // Another one in each stream, for each cell.
+            let mut rng = Rng::new(turn.into());
+            append_texts(&mut stream, texts, || rng.below(unique as usize) as u32);
+        }
+        Hostile::ManyStrings => append_texts(&mut stream, texts, || {
+            rng.between(1, unique as usize - 1) as u32
         }),
     }
     append_header(&mut stream, kind::EOF, 0);
     stream
 }
 
-fn append_table(stream: &mut Vec<u8>, hostile: Hostile, bytes: usize) -> u32 {
-    let mut table = match hostile {
-        Hostile::AnyOrder | Hostile::RowsReversed => return 0,
-        Hostile::LongStrings | Hostile::ManyStrings => TableWriter::start(stream),
-    };
-    if hostile == Hostile::LongStrings {
-        table.narrow_string(&[b'a'; 65_535]);
-        table.narrow_string(&[b'a'; 65_535]);
-    } else {
-        for _ in 0..(bytes / 8).max(1) {
-            table.whole_string(&[1, 0, 0, b'a']);
+/// So many strings.
+fn append_table(stream: &mut Vec<u8>, hostile: Hostile, bytes: usize, turn: u32) -> u32 {
+    // As many bytes as the cells have.
+    let long = (bytes / 2 / LONG_STRINGS).clamp(1, LONGEST);
+    match hostile {
+        Hostile::AnyOrder | Hostile::Anywhere | Hostile::Clusters | Hostile::RowsReversed => 0,
+        Hostile::LongStrings => append_strings(stream, 2, |table| {
+            table.narrow_string(&[b'a'; LONGEST]);
+        }),
+        Hostile::TwoWidths => append_strings(stream, 2, |table| match turn {
+            0 => table.narrow_string(&[b'a'; LONGEST]),
+            _ => table.wide_string(&[b'a'; LONGEST]),
+        }),
+        Hostile::ManyLongStrings => append_strings(stream, LONG_STRINGS, |table| {
+            table.narrow_string(&vec![b'a'; long]);
+        }),
+        Hostile::ShortSegments => append_strings(stream, LONG_STRINGS, |table| {
+            // A header, the width and the character.
+            table.shredded_string(&vec![b'a'; (long / 6).max(1)]);
+        }),
+        Hostile::ManyStrings => {
+            let mut first = [1, 0, 0, b'0' + turn as u8];
+            append_strings(stream, (bytes / 8).max(2), |table| {
+                table.whole_string(&first);
+                first[3] = b'a';
+            })
         }
     }
+}
+
+fn append_strings(
+    stream: &mut Vec<u8>,
+    count: usize,
+    mut append: impl FnMut(&mut TableWriter),
+) -> u32 {
+    let mut table = TableWriter::start(stream);
+    (0..count).for_each(|_| append(&mut table));
     table.finish()
 }
 
-/// Each address once.
-fn append_numbers(rng: &mut Rng, stream: &mut Vec<u8>, count: usize) {
-    let mut places: Vec<usize> = (0..count).collect();
+/// So many places over the whole sheet, in clusters of so many neighbours.
+fn spread(count: usize, cluster: usize) -> Vec<usize> {
+    let clusters = count.div_ceil(cluster).max(1);
+    (0..count)
+        .map(|cell| cell / cluster * (ADDRESSES / clusters) + cell % cluster)
+        .collect()
+}
+
+/// Each place once.
+fn append_numbers(rng: &mut Rng, stream: &mut Vec<u8>, mut places: Vec<usize>) {
     rng.shuffle(&mut places);
     for place in places {
         append_start(stream, kind::NUMBER, place, 14);
