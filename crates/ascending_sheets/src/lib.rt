@@ -17,13 +17,13 @@ pub fn merge(
     v: usize,
     p: usize,
     m: u32,
-    z: &[u32; 3072],
+    z: &[u32; 3456],
     f: usize,
     t: &[u8],
     w: usize,
     q: usize,
     n: u32,
-    u: &[u32; 3072],
+    u: &[u32; 3456],
     g: usize,
     common: u32,
     base: u64,
@@ -31,7 +31,7 @@ pub fn merge(
     i: usize,
     out: &mut [u64],
 ) -> usize
-    requires { ⌜ Tabled (now s) p m × Marks (now s) p m f (now z) × Tabled (now t) q n × Marks (now t) q n g (now u) × AscendFrom 0 (listedFrom (now s) (placeAt v 0)) × AscendFrom 0 (listedFrom (now t) (placeAt w 0)) × Common (stringsAt (now s) p) (stringsAt (now t) q) common × (from ≤ 4294967296) × (base < 576460752303423488) ⌝ }
+    requires { ⌜ Tabled (now s) p m × Marks (now s) p (now s) p m f (now z) × Tabled (now t) q n × Marks (now s) p (now t) q n g (now u) × AscendFrom 0 (listedFrom (now s) (placeAt v 0)) × AscendFrom 0 (listedFrom (now t) (placeAt w 0)) × Common (stringsAt (now s) p) (stringsAt (now t) q) common × (from ≤ 4294967296) × (base < 576460752303423488) ⌝ }
     ensures { λ r. ⌜ r ≡ putTo (length (now (out .entry))) i (cellWords (now (s .entry)) v p (now (t .entry)) w q base from) ⌝ }
     ensures { λ r. ⌜ now (out .exit) ≡ puts (now (out .entry)) i (cellWords (now (s .entry)) v p (now (t .entry)) w q base from) ⌝ }
 {

@@ -6,14 +6,22 @@ use mathlib.Core.Logic.{_⊎_, inl, inr}
 use native.Mathlib.Numerals.{add-one}
 use native.Mathlib.Omega.{arith}
 use native.Mathlib.Nat.{add-assoc}
-use lib.ListN.{length, getD, set, length-set}
-use lib.Seq.{sets, getD-set-same, getD-set-other}
-use Rattle.bytes.specs.Bytes.{numAt, u32At, u64At, bytesOf}
+use lib.ListN.{length, getD, set, length-set, take, drop, List·getD-eq-default}
+use lib.Seq.{sets, drop-cons, getD-set-same, getD-set-other}
+use Rattle.bytes.specs.Bytes.{numAt, u16At, u32At, u64At, bytesAt, bytesOf}
 
--- ---- a number from its halves, as `u64_at` reads them
+-- ---- a number from its halves, as they are read
+pub u32-halves : (s : List ℕ) (p : ℕ) {a b x y : ℕ} → a ≡ u16At s p → x ≡ a → b ≡ u16At s (p + 2) → y ≡ b → x + y * 65536 ≡ u32At s p
+unfolding numAt
+u32-halves s p h i j k = rw (i, k, h, j) (simp add-assoc (omega arith))
+
 pub u64-halves : (s : List ℕ) (p : ℕ) {a b x y : ℕ} → a ≡ u32At s p → x ≡ a → b ≡ u32At s (p + 4) → y ≡ b → x + y * 4294967296 ≡ u64At s p
 unfolding numAt
 u64-halves s p h i j k = rw (i, k, h, j) (simp add-assoc (omega arith))
+
+-- ---- past the end
+pub byte-none : (s : List ℕ) (i : ℕ) → length s ≤ i → 0 ≡ getD s i 0
+byte-none s i h = sym (List·getD-eq-default s 0 h)
 
 -- ---- a number stored byte by byte
 pub put-step : (x s : List ℕ) (at w n b : ℕ) → x ≡ sets s at (bytesOf w n) → 0 < w → b ≡ n % 256 → x ≡ sets (set s at b) (at + 1) (bytesOf (w - 1) (n / 256))
@@ -25,6 +33,23 @@ put-step x s at w n b inv h e =
 pub put-end : (x s : List ℕ) (at w n : ℕ) → x ≡ sets s at (bytesOf w n) → w ≤ 0 → s ≡ x
 unfolding bytesOf
 put-end x s at w n inv h = let w-is : w ≡ 0 = omega arith in sym (inv ∙ ap (λ (m : ℕ). sets s at (bytesOf m n)) w-is)
+
+-- ---- bytes copied one after the other
+pub bytes-first : (s : List ℕ) (p n : ℕ) → p < length s → 0 < n → bytesAt s p n ≡ getD s p 0 ∷ bytesAt s (p + 1) (n - 1)
+unfolding bytesAt
+bytes-first s p n h z =
+    let a : n ≡ suc (n - 1) = omega arith in
+    ap₂ take a (drop-cons s p 0 h) ∙ ap (λ (k : ℕ). getD s p 0 ∷ take (n - 1) (drop k s)) (sym (add-one p))
+
+pub copy-step : (x o s : List ℕ) (to of left b : ℕ) → x ≡ sets o to (bytesAt s of left) → 0 < left → of + left ≤ length s → b ≡ getD s of 0 → x ≡ sets (set o to b) (to + 1) (bytesAt s (of + 1) (left - 1))
+copy-step x o s to of left b inv h l e =
+    inv ∙ ap (sets o to) (bytes-first s of left (omega arith) h)
+    ∙ ap (λ (n : ℕ). sets (set o to n) (suc to) (bytesAt s (of + 1) (left - 1))) (sym e)
+    ∙ ap (λ (n : ℕ). sets (set o to b) n (bytesAt s (of + 1) (left - 1))) (sym (add-one to))
+
+pub copy-end : (x o s : List ℕ) (to of left : ℕ) → x ≡ sets o to (bytesAt s of left) → left ≤ 0 → o ≡ x
+unfolding bytesAt
+copy-end x o s to of left inv h = let z : left ≡ 0 = omega arith in sym (inv ∙ ap (λ (n : ℕ). sets o to (take n (drop of s))) z)
 
 -- ---- what is there after a store
 pub length-bytes : (w n : ℕ) → length (bytesOf w n) ≡ w

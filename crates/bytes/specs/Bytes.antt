@@ -1,7 +1,7 @@
 -- Little-endian numbers of a byte list.
 use Prim.Native.Nat.{ℕ, zero, suc, _+_, _*_, _/_, _%_}
 use mathlib.Core.List.{List, [], _∷_}
-use lib.ListN.{getD}
+use lib.ListN.{getD, take, drop}
 
 abbrev pub byteAt : List ℕ → ℕ → ℕ
 byteAt s at = getD s at 0
@@ -19,6 +19,10 @@ u32At s at = numAt s 4 at
 
 abbrev pub u64At : List ℕ → ℕ → ℕ
 u64At s at = numAt s 8 at
+
+-- the n bytes from p on
+unfoldable pub bytesAt : List ℕ → ℕ → ℕ → List ℕ
+bytesAt s p n = take n (drop p s)
 
 -- the w bytes of a number, the lower first
 unfoldable pub bytesOf : ℕ → ℕ → List ℕ

@@ -1,9 +1,9 @@
 // Little-endian numbers of a byte slice, read and stored. What may be asked only within the slice says so; the questions above look first.
 ghost use mathlib.Core.Path.{_≡_};
 ghost use Prim.Native.Nat.{_+_, _≤_, _<_};
-ghost use lib.ListN.{length};
+ghost use lib.ListN.{length, getD};
 ghost use lib.Seq.{sets};
-ghost use Rattle.bytes.specs.Bytes.{u16At, u32At, u64At, bytesOf};
+ghost use Rattle.bytes.specs.Bytes.{u16At, u32At, u64At, bytesAt, bytesOf};
 
 // A number in a wider type, with the bound that its own type gave it.
 pub fn byte_as_u16(x: u8) -> u16
@@ -87,6 +87,33 @@ pub fn u64_at(s: &[u8], at: usize) -> u64
     u32_as_u64(u32_at(s, at)) + u32_as_u64(u32_at(s, at + 4)) * 0x1_0000_0000
 }
 
+// The same where a number may go past the end: what is past it counts as 0.
+fn byte_or_zero(s: &[u8], at: usize) -> u16
+    ensures { λ r. ⌜ (r ≡ getD (now (s .entry)) at 0) × (r < 256) ⌝ }
+{
+    if at < s.len() {
+        return byte_as_u16(s[at]);
+    }
+    0
+}
+
+pub fn u16_or_zeros(s: &[u8], at: usize) -> u16
+    requires { ⌜ at + 2 < 18446744073709551616 ⌝ }
+    ensures { λ r. ⌜ r ≡ u16At (now (s .entry)) at ⌝ }
+{
+    byte_or_zero(s, at) + byte_or_zero(s, at + 1) * 256
+}
+
+pub fn u32_or_zeros(s: &[u8], at: usize) -> u32
+    requires { ⌜ at + 4 < 18446744073709551616 ⌝ }
+    ensures { λ r. ⌜ r ≡ u32At (now (s .entry)) at ⌝ }
+{
+    if at + 4 <= s.len() {
+        return u32_at(s, at);
+    }
+    u16_as_u32(u16_or_zeros(s, at)) + u16_as_u32(u16_or_zeros(s, at + 2)) * 0x1_0000
+}
+
 // The w bytes of n, the lower first, stored at `at`.
 pub fn store(s: &mut [u8], at: usize, w: usize, n: u64)
     requires { ⌜ at + w ≤ length (now s) ⌝ }
@@ -99,6 +126,22 @@ pub fn store(s: &mut [u8], at: usize, w: usize, n: u64)
         s[to] = (rest % 256) as u8;
         to += 1;
         rest = rest >> 8;
+        left -= 1;
+    }
+}
+
+// The n bytes from p on, stored at `at`.
+pub fn copy(s: &[u8], p: usize, n: usize, out: &mut [u8], at: usize)
+    requires { ⌜ (p + n ≤ length (now s)) × (at + n ≤ length (now out)) ⌝ }
+    ensures { λ _. ⌜ now (out .exit) ≡ sets (now (out .entry)) at (bytesAt (now (s .entry)) p n) ⌝ }
+{
+    let mut left = n;
+    let mut from = p;
+    let mut to = at;
+    while 0 < left {
+        out[to] = s[from];
+        from += 1;
+        to += 1;
         left -= 1;
     }
 }

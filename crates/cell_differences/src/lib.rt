@@ -56,14 +56,14 @@ pub fn put_unequal(
     s: &[u8],
     p: usize,
     m: u32,
-    z: &[u32; 3072],
+    z: &[u32; 3456],
     f: usize,
     v: CellValue,
     a: usize,
     t: &[u8],
     q: usize,
     n: u32,
-    u: &[u32; 3072],
+    u: &[u32; 3456],
     g: usize,
     w: CellValue,
     b: usize,
@@ -71,7 +71,7 @@ pub fn put_unequal(
     i: usize,
     out: &mut [u64],
 ) -> usize
-    requires { ⌜ Tabled (now s) p m × Marks (now s) p m f (now z) × Tabled (now t) q n × Marks (now t) q n g (now u) × (key < 1152921504606846976) ⌝ }
+    requires { ⌜ Tabled (now s) p m × Marks (now s) p (now s) p m f (now z) × Tabled (now t) q n × Marks (now s) p (now t) q n g (now u) × (key < 1152921504606846976) ⌝ }
     ensures { λ r. ⌜ r ≡ putTo (length (now (out .entry))) i (wordsOf key (atBoth (now (s .entry)) (now (t .entry)) (stringsAt (now (s .entry)) p) (stringsAt (now (t .entry)) q) (holds v a) (holds w b))) ⌝ }
     ensures { λ r. ⌜ now (out .exit) ≡ puts (now (out .entry)) i (wordsOf key (atBoth (now (s .entry)) (now (t .entry)) (stringsAt (now (s .entry)) p) (stringsAt (now (t .entry)) q) (holds v a) (holds w b))) ⌝ }
 {
@@ -93,7 +93,7 @@ pub fn merge(
     ac: usize,
     p: usize,
     m: u32,
-    z: &[u32; 3072],
+    z: &[u32; 3456],
     f: usize,
     t: &[u8],
     w: usize,
@@ -102,7 +102,7 @@ pub fn merge(
     bc: usize,
     q: usize,
     n: u32,
-    u: &[u32; 3072],
+    u: &[u32; 3456],
     g: usize,
     base: u64,
     from: u64,
@@ -110,7 +110,7 @@ pub fn merge(
     i: usize,
     out: &mut [u64],
 ) -> usize
-    requires { ⌜ Tabled (now s) p m × Marks (now s) p m f (now z) × Tabled (now t) q n × Marks (now t) q n g (now u) × (from ≤ 4294967296) × (base < 576460752303423488) × (high ≤ 4294967296) × (ac ≤ length (now a)) × (bc ≤ length (now b)) × Ascends (listedFrom (now s) (placeAt v 0)) up × Ascends (listedFrom (now t) (placeAt w 0)) down ⌝ }
+    requires { ⌜ Tabled (now s) p m × Marks (now s) p (now s) p m f (now z) × Tabled (now t) q n × Marks (now s) p (now t) q n g (now u) × (from ≤ 4294967296) × (base < 576460752303423488) × (high ≤ 4294967296) × (ac ≤ length (now a)) × (bc ≤ length (now b)) × Ascends (listedFrom (now s) (placeAt v 0)) up × Ascends (listedFrom (now t) (placeAt w 0)) down ⌝ }
     ensures { λ r. ⌜ r ≡ putTo (length (now (out .entry))) i (sideWords (now (s .entry)) v up (now (a .entry)) ac p (now (t .entry)) w down (now (b .entry)) bc q base from high) ⌝ }
     ensures { λ r. ⌜ now (out .exit) ≡ puts (now (out .entry)) i (sideWords (now (s .entry)) v up (now (a .entry)) ac p (now (t .entry)) w down (now (b .entry)) bc q base from high) ⌝ }
 {

@@ -7,7 +7,7 @@ use Rattle.number.specs.Rounding.{rounded, digits}
 use Rattle.number.specs.Float64.{bitsOf}
 use Rattle.number.specs.Rk.{rkBits, quotientBits, rkSign, rkSize, meansNothing, rkOf}
 use Rattle.number.specs.Packing.{packOf, wholeForm}
-use Rattle.functions.specs.Counts.{functions, countsOf}
+use Rattle.function_counts.specs.Counts.{functions, countsOf}
 use Rattle.tokens.specs.Tokens.{operandOf, wholeOf, textOf, attributeBy, attributeOf, baseOf, columnClear, referenceOf, areaOf, fixedOf, calledOf, variableOf, memoryOf, innerOf, classifiedOf, tokenOf}
 use Rattle.tokens.specs.Judge.{atEnd, formulaOf, tokensJudged}
 use Rattle.trailing.specs.Trailing.{sizedOf, textOf as dataText, elementBy, elementOf, elementsOf, arrayOf}

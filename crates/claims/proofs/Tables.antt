@@ -99,20 +99,17 @@ module _ (s : List ℕ) (lent sheets n row column : ℕ) (v : NewValue) (f : Fie
   passes′ : checkedOf s′ lent ≡ Right g
   passes′ = upheld s lent sheets n row column v f p b held h ∙ r .passes
 
+  both-passed : {X : Type 0} (down : ℕ → ℕ → X) (f : List ℕ → Globals → X) → f s′ g ≡ f s g → onChecked down (f s′) (checkedOf s′ lent) ≡ onChecked down (f s) (checkedOf s lent)
+  both-passed down f e = ap (onChecked down (f s′)) passes′ ∙ e ∙ ap (onChecked down (f s)) (sym (r .passes))
+
   module _ (t : List ℕ) where
     fill-same : fillOf s′ lent t ≡ fillOf s lent t
     unfolding fillOf
-    fill-same =
-        ap (onChecked Refused (λ (x : Globals). filledOf (length t) (placesAt s′ (x .table)))) passes′
-        ∙ ap (filledOf (length t)) places-same
-        ∙ ap (onChecked Refused (λ (x : Globals). filledOf (length t) (placesAt s (x .table)))) (sym (r .passes))
+    fill-same = both-passed Refused (λ a x. filledOf (length t) (placesAt a (x .table))) (ap (filledOf (length t)) places-same)
 
     after-same : tableAfter s′ lent t ≡ tableAfter s lent t
     unfolding tableAfter
-    after-same =
-        ap (onChecked (λ _ _. t) (λ (x : Globals). places.tableOf t (placesAt s′ (x .table)))) passes′
-        ∙ ap (places.tableOf t) places-same
-        ∙ ap (onChecked (λ _ _. t) (λ (x : Globals). places.tableOf t (placesAt s (x .table)))) (sym (r .passes))
+    after-same = both-passed (λ _ _. t) (λ a x. places.tableOf t (placesAt a (x .table))) (ap (places.tableOf t) places-same)
 
     module _ (k : ℕ) (e : fillOf s lent t ≡ Strings k) (i : ℕ) (c : List ℕ) where
       e′ : fillOf s′ lent t ≡ Strings k
@@ -127,29 +124,19 @@ module _ (s : List ℕ) (lent sheets n row column : ℕ) (v : NewValue) (f : Fie
       globals-one′ : given s′ t lent k e′ i c .globals ≡ g
       globals-one′ = right-one (given s′ t lent k e′ i c .globals) s′ (given s′ t lent k e′ i c .passes) passes′
 
+      by-both : {X : Type 0} (f : List ℕ → List ℕ → X) (a : List ℕ → Globals → X) → f s′ (tableAfter s′ lent t) ≡ a s′ (given s′ t lent k e′ i c .globals) → f s (tableAfter s lent t) ≡ a s (given s t lent k e i c .globals)
+          → a s′ g ≡ a s g → f s′ (tableAfter s lent t) ≡ f s (tableAfter s lent t)
+      by-both f a p q l = ap (f s′) (sym after-same) ∙ p ∙ ap (a s′) globals-one′ ∙ l ∙ ap (a s) (sym globals-one) ∙ sym q
+
       through-same : throughOf s′ (tableAfter s lent t) i c ≡ throughOf s (tableAfter s lent t) i c
       through-same =
-          ap (λ (x : List ℕ). throughOf s′ x i c) (sym after-same)
-          ∙ through-filled s′ t lent k e′ i c
-          ∙ ap (answerIn s′ i c) globals-one′
-          ∙ answers
-          ∙ ap (answerIn s i c) (sym globals-one)
-          ∙ sym (through-filled s t lent k e i c)
-        where
-          answers : answerIn s′ i c g ≡ answerIn s i c g
-          answers = ap (λ (x : List (List ℕ)). nth x i (fetchedOf (length c)) (fetched.Refused 11 0)) strings-same
+          by-both (λ a x. throughOf a x i c) (λ a. answerIn a i c) (through-filled s′ t lent k e′ i c) (through-filled s t lent k e i c)
+          (ap (λ (x : List (List ℕ)). nth x i (fetchedOf (length c)) (fetched.Refused 11 0)) strings-same)
 
       buffer-same : bufferThrough s′ (tableAfter s lent t) i c ≡ bufferThrough s (tableAfter s lent t) i c
       buffer-same =
-          ap (λ (x : List ℕ). bufferThrough s′ x i c) (sym after-same)
-          ∙ buffer-filled s′ t lent k e′ i c
-          ∙ ap (bufferIn s′ i c) globals-one′
-          ∙ buffers
-          ∙ ap (bufferIn s i c) (sym globals-one)
-          ∙ sym (buffer-filled s t lent k e i c)
-        where
-          buffers : bufferIn s′ i c g ≡ bufferIn s i c g
-          buffers = ap (λ (x : List (List ℕ)). nth x i (bufferOf c) c) strings-same
+          by-both (λ a x. bufferThrough a x i c) (λ a. bufferIn a i c) (buffer-filled s′ t lent k e′ i c) (buffer-filled s t lent k e i c)
+          (ap (λ (x : List (List ℕ)). nth x i (bufferOf c) c) strings-same)
 
 -- the stream after a granted correction
 pub same-table : SameTable

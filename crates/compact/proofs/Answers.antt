@@ -10,11 +10,10 @@ use Rattle.new_stream.specs.Entries.{entriesOf}
 use Rattle.new_stream.specs.Compact.{compactWith}
 use Rattle.new_table.specs.NewTable.{newTable, compactedOf}
 use Rattle.new_table.proofs.Claims.{new-table}
-use Rattle.copied_records.specs.Copied.{copied}
+use Rattle.copied_records.specs.Copied.{edited, copiedEntry}
 use Rattle.new_places.specs.Parts.{LengthOf}
-use Rattle.copy_changes.specs.Edited as edit
-use Rattle.copy_changes.specs.Edited.{edited, tableChange, Roomy}
-use Rattle.copy_changes.proofs.Whole.{all-good, compact-length}
+use Rattle.new_fields.specs.Edited.{tableChange, Roomy}
+use Rattle.new_fields.proofs.Whole.{all-good, compact-length}
 use Rattle.compact.specs.declared.Compacted.the-variants.{Written, Refused}
 use Rattle.compact.specs.declared.Plan.{Plan}
 use Rattle.compact.specs.Compacted.{answerTo, bufferTo}
@@ -70,22 +69,22 @@ module _ (s : List ℕ) (g : Globals) (t : Plan) (top : ℕ) (x : Prepared s g t
     plan-roomy = record {
       short = x .planned .short;
       table = x .small;
-      good = all-good s (newTable s g) (x .lent) g (x .few) (x .ok) (new-table s (x .lent) g (x .bytes) (x .ok)) short;
+      good = all-good s (newTable s g) (x .passed .lent) g (x .passed .few) (x .passed .ok) (new-table s (x .passed .lent) g (x .passed .bytes) (x .passed .ok)) short;
       room = let a = plan-length n is in let b = compact-length s (newTable s g) in let c = ap (λ (k : ℕ). Rattle.copied_records.specs.Copied.sizes k (entriesOf s)) (x .size) in omega arith;
     }
 
     pub plan-made : (o′ : List ℕ) → Rewritten s (t .size) top (tabled s t o) o′ → o′ ≡ bufferTo (compactedOf s g) o
-    unfolding tabled edit.withTable
+    unfolding tabled
     plan-made o′ w =
         buffer-written (compactedOf s g) o n (plan-length n is) low o′ room
         (new-made s (newTable s g) o (tabled s t o) o′ top
         record { good = plan-roomy .good; room = let a = plan-length n is in omega arith }
         (new-some) (x .below)
-        (λ i. edited (tableChange (x .table i)) (x .size i) (entriesOf s) (copied s (x .size i) (entriesOf s) o 0) 0)
+        (λ i. edited (tableChange (x .table i)) (x .size i) (entriesOf s) (edited (copiedEntry s) (x .size i) (entriesOf s) o 0) 0)
         (subst (λ (k : ℕ). Rewritten s k top (tabled s t o) o′) (x .size) w))
       where
         new-some : 4 ≤ length (newTable s g)
-        new-some = new-table s (x .lent) g (x .bytes) (x .ok) .table (x .some) .some
+        new-some = new-table s (x .passed .lent) g (x .passed .bytes) (x .passed .ok) .table (x .some) .some
 
 pub ruleset answer-laws = (answer-large, buffer-large, answer-short, buffer-short, answer-written)
 

@@ -15,24 +15,22 @@ use Rattle.new_stream.specs.Entries.{entriesOf}
 use Rattle.new_places.specs.declared.Fate.{Fate}
 use Rattle.new_places.specs.declared.Fate.the-variants.{Stays, Goes, Table, Text, Sheet}
 use Rattle.new_places.specs.Parts.{fated}
-use Rattle.copied_records.specs.Copied.{copied}
-use Rattle.copy_changes.specs.Edited.{edited, tableChange, sheetChange, placeFor, Roomy}
-use Rattle.copy_changes.proofs.Editing.{Keeps, Editing, editing-start}
+use Rattle.copied_records.specs.Copied.{edited, copiedEntry}
+use Rattle.new_fields.specs.Edited.{tableChange, sheetChange, placeFor, Good, Roomy}
+use Rattle.copied_records.proofs.Editing.{Keeps, Editing}
+use Rattle.new_fields.proofs.Laws.{roomy-start}
 use Rattle.table_chunks.specs.Chosen.{chosen}
-use Rattle.new_indices.specs.Runs.{Reindexed}
+use Rattle.new_fields.specs.Runs.{Reindexed}
 use Rattle.compact.specs.declared.Plan.{Plan}
 use Rattle.compact.specs.Parts.{bytesFor, Planned, tabled, Rewritten}
 
 -- ---- one record
 table-keeps : (T : List ℕ) → Keeps (tableChange T)
-table-keeps T = record { long = long; stays = λ p z o q. refl }
-  where
-    long : (p z : ℕ) (x : entries.Fate) (o : List ℕ) (q : ℕ) → length (tableChange T p z x o q) ≡ length o
-    long p z entries.stays o q = refl
-    long p z entries.goes o q = refl
-    long p z entries.table o q = length-sets o q T
-    long p z entries.text o q = refl
-    long p z entries.sheet o q = refl
+table-keeps T p z entries.stays o q = refl
+table-keeps T p z entries.goes o q = refl
+table-keeps T p z entries.table o q = length-sets o q T
+table-keeps T p z entries.text o q = refl
+table-keeps T p z entries.sheet o q = refl
 
 module _ (s : List ℕ) (t : Plan) (p z q : ℕ) (o : List ℕ) (x : Fate) where
   pub entry-table : (o′ : List ℕ) → x ≡ Table → o′ ≡ withTable o q (t .total) (chosen s 0 (t .unique) (first (t .head) (t .end))) → o′ ≡ tableChange (bytesFor s t) p z (fated x) o q
@@ -57,8 +55,8 @@ entry-room s t x q m g h e = let a = h e in let b = g .sized in omega arith
 pub ruleset entry-laws = (entry-table, entry-stays, entry-goes, entry-text, entry-sheet, entry-room)
 
 -- ---- the walk
-pub tables-start : (s : List ℕ) (t : Plan) (o : List ℕ) → Roomy s (t .size) (length o) → Editing s (tableChange (bytesFor s t)) (t .size) o (record { at = 0; level = 0; kind = 0; gone = false }) 0 o
-tables-start s t o h = editing-start s (tableChange (bytesFor s t)) (t .size) o (table-keeps (bytesFor s t)) h
+pub tables-start : (s : List ℕ) (t : Plan) (o : List ℕ) → Roomy s (t .size) (length o) → Editing s (Good s) (tableChange (bytesFor s t)) (t .size) o (record { at = 0; level = 0; kind = 0; gone = false }) 0 o
+tables-start s t o h = roomy-start s (tableChange (bytesFor s t)) (t .size) o (table-keeps (bytesFor s t)) h
 
 pub same-words : (l l₀ l₁ : List ℕ) → length l ≡ length l₁ → length l₁ ≡ length l₀ → length l ≡ length l₀
 same-words l l₀ l₁ e f = e ∙ f
@@ -75,7 +73,7 @@ pub ruleset word-laws = (same-words, some-words, few-words)
 pub room-same : (s : List ℕ) (n : ℕ) (o o′ : List ℕ) → length o′ ≡ length o → Roomy s n (length o) → Roomy s n (length o′)
 room-same s n o o′ e h = subst (Roomy s n) (sym e) h
 
-pub tabled-by : (s : List ℕ) (t : Plan) (o o₁ o₂ : List ℕ) → o₁ ≡ copied s (t .size) (entriesOf s) o 0 → o₂ ≡ edited (tableChange (bytesFor s t)) (t .size) (entriesOf s) o₁ 0 → o₂ ≡ tabled s t o
+pub tabled-by : (s : List ℕ) (t : Plan) (o o₁ o₂ : List ℕ) → o₁ ≡ edited (copiedEntry s) (t .size) (entriesOf s) o 0 → o₂ ≡ edited (tableChange (bytesFor s t)) (t .size) (entriesOf s) o₁ 0 → o₂ ≡ tabled s t o
 unfolding tabled
 tabled-by s t o o₁ o₂ e f = f ∙ ap (λ (y : List ℕ). edited (tableChange (bytesFor s t)) (t .size) (entriesOf s) y 0) e
 

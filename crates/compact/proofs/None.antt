@@ -11,10 +11,10 @@ use Rattle.new_stream.specs.Entries.{entriesOf}
 use Rattle.new_stream.specs.Compact.{compactWith}
 use Rattle.new_table.specs.NewTable.{newTable, compactedOf}
 use Rattle.new_table.proofs.Claims.{new-table}
-use Rattle.copied_records.specs.Copied.{copied, sizes}
+use Rattle.copied_records.specs.Copied.{sizes, edited, copiedEntry}
 use Rattle.new_places.specs.Parts.{LengthOf}
-use Rattle.copy_changes.specs.Edited.{edited, sheetChange, placeFor, Roomy}
-use Rattle.copy_changes.proofs.Whole.{all-good, compact-length}
+use Rattle.new_fields.specs.Edited.{sheetChange, placeFor, Roomy}
+use Rattle.new_fields.proofs.Whole.{all-good, compact-length}
 use Rattle.compact.specs.Compacted.{bufferTo}
 use Rattle.compact.specs.Parts.{Untabled}
 use Rattle.compact.proofs.Made.{none-made}
@@ -29,7 +29,7 @@ module _ (s : List ℕ) (g : Globals) (x : Untabled s g) where
   stream-is = ap (compactWith s) no-table
 
   pub none-short : length s ≤ 16777216
-  none-short = passing s (x .lent) g (x .ok) .short
+  none-short = passing s (x .passed .lent) g (x .passed .ok) .short
 
   pub none-length : (n : ℕ) → LengthOf s 0 n → n ≡ length (compactedOf s g)
   none-length n h = h [] refl ∙ ap length (sym stream-is)
@@ -39,7 +39,7 @@ module _ (s : List ℕ) (g : Globals) (x : Untabled s g) where
     none-roomy = record {
       short = none-short;
       table = omega arith;
-      good = all-good s (newTable s g) (x .lent) g (x .few) (x .ok) (new-table s (x .lent) g (x .bytes) (x .ok)) (let a = none-length n is in omega arith);
+      good = all-good s (newTable s g) (x .passed .lent) g (x .passed .few) (x .passed .ok) (new-table s (x .passed .lent) g (x .passed .bytes) (x .passed .ok)) (let a = none-length n is in omega arith);
       room = let a = is [] refl in let b = compact-length s [] in omega arith;
     }
 
@@ -49,10 +49,10 @@ module _ (s : List ℕ) (g : Globals) (x : Untabled s g) where
     pub none-roomy-2 : (o₁ : List ℕ) → length o₁ ≡ length o → Roomy s 0 (length o₁)
     none-roomy-2 o₁ e = subst (Roomy s 0) (sym e) none-roomy
 
-    pub none-buffer : (o₁ o₂ : List ℕ) → o₁ ≡ copied s 0 (entriesOf s) o 0 → o₂ ≡ edited (sheetChange s (placeFor 0 (entriesOf s))) 0 (entriesOf s) o₁ 0 → o₂ ≡ bufferTo (compactedOf s g) o
+    pub none-buffer : (o₁ o₂ : List ℕ) → o₁ ≡ edited (copiedEntry s) 0 (entriesOf s) o 0 → o₂ ≡ edited (sheetChange s (placeFor 0 (entriesOf s))) 0 (entriesOf s) o₁ 0 → o₂ ≡ bufferTo (compactedOf s g) o
     none-buffer o₁ o₂ e f =
         buffer-written (compactedOf s g) o n (none-length n is) low o₂ room
-        (none-made s o o₁ o₂ (x .bytes) record { good = none-roomy .good; room = let a = is [] refl in omega arith } e f
+        (none-made s o o₁ o₂ (x .passed .bytes) record { good = none-roomy .good; room = let a = is [] refl in omega arith } e f
         ∙ ap (λ (t : List ℕ). t ++ drop (length t) o) (sym stream-is))
 
 pub ruleset without-laws = (none-short, none-length, none-sizes, none-roomy-2, none-buffer)

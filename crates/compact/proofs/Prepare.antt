@@ -28,8 +28,8 @@ use Rattle.new_stream.proofs.Check.{compacted}
 use Rattle.new_table.specs.NewTable.{Bytes, newTable, compactedOf, compactOf}
 use Rattle.new_table.proofs.Claims.{new-table, new-is}
 use Rattle.table_chunks.specs.Chosen.{chosen}
-use Rattle.new_indices.specs.Runs.{topIn}
-use Rattle.new_indices.proofs.Laws.{all-below}
+use Rattle.new_fields.specs.Runs.{topIn}
+use Rattle.new_fields.proofs.Indices.{all-below}
 use Rattle.compact.specs.declared.Plan.{Plan}
 use Rattle.compact.specs.declared.Compacted.{Compacted}
 use Rattle.compact.specs.declared.Compacted.the-variants.{Refused}
@@ -103,10 +103,7 @@ module _ (s : List ℕ) (u : ℕ) (g : Globals) (few : u ≤ 256 ^ 4) (bytes : B
       → t .count ≡ usedBelow (textsIn s (entriesOf s)) (t .unique) → Counted (chosen s 0 (t .unique) (first (t .head) (t .end))) (t .size) → t .size ≤ 16777216 → top ≡ topIn (textsIn s (entriesOf s)) 0
       → Prepared s g t top
   prepared t top head to unique total count counted small is = record {
-    bytes = bytes;
-    lent = u;
-    few = few;
-    ok = ok;
+    passed = record { bytes = bytes; lent = u; few = few; ok = ok };
     some = some;
     planned = record {
       short = passing s u g ok .short;
@@ -133,16 +130,16 @@ module _ (s : List ℕ) (u : ℕ) (g : Globals) (few : u ≤ 256 ^ 4) (bytes : B
 -- ---- as the functions cite it
 module _ (s : List ℕ) (g : Globals) (x : Tabled s g) where
   pub with-low : g .table + 4 + u16At s (g .table + 2) ≤ length s
-  with-low = table-low s (x .lent) g (x .bytes) (x .ok) (x .some)
+  with-low = table-low s (x .passed .lent) g (x .passed .bytes) (x .passed .ok) (x .some)
 
   pub with-short : length s ≤ 16777216
-  with-short = passing s (x .lent) g (x .ok) .short
+  with-short = passing s (x .passed .lent) g (x .passed .ok) .short
 
   pub with-head : g .table + 12 < 18446744073709551616
-  with-head = let a = old-inside s (x .lent) g (x .bytes) (x .ok) (x .some) in let b = with-short in omega arith
+  with-head = let a = old-inside s (x .passed .lent) g (x .passed .bytes) (x .passed .ok) (x .some) in let b = with-short in omega arith
 
   pub with-few : (n : ℕ) → n ≡ g .unique → n < 4294967296
-  with-few n e = let a = num-below s (x .bytes) 4 4 (g .table + 8) (omega arith) in let b = unique-is s (x .lent) g (x .bytes) (x .ok) (x .some) in omega arith
+  with-few n e = let a = num-below s (x .passed .bytes) 4 4 (g .table + 8) (omega arith) in let b = unique-is s (x .passed .lent) g (x .passed .bytes) (x .passed .ok) (x .some) in omega arith
 
   pub with-total : (n : ℕ) → n ≡ length (textsIn s (entriesOf s)) → n < 4294967296
   with-total n e = let a = texts-few s in let b = with-short in omega arith
@@ -152,24 +149,24 @@ module _ (s : List ℕ) (g : Globals) (x : Tabled s g) where
 
   module _ (e n : ℕ) (to : e ≡ g .table + 4 + u16At s (g .table + 2)) (unique : n ≡ g .unique) where
     pub with-inside : Inside s (first (g .table) e)
-    with-inside = subst (λ (k : ℕ). Inside s (first (g .table) k)) (sym to) (old-inside s (x .lent) g (x .bytes) (x .ok) (x .some))
+    with-inside = subst (λ (k : ℕ). Inside s (first (g .table) k)) (sym to) (old-inside s (x .passed .lent) g (x .passed .bytes) (x .passed .ok) (x .some))
 
     pub with-passes : Passes (strings s n (first (g .table) e))
-    with-passes = subst (λ (k : ℕ). Passes (strings s k (first (g .table) e))) (sym unique) (subst (λ (k : ℕ). Passes (strings s (g .unique) (first (g .table) k))) (sym to) (old-passes s (x .lent) g (x .bytes) (x .ok) (x .some)))
+    with-passes = subst (λ (k : ℕ). Passes (strings s k (first (g .table) e))) (sym unique) (subst (λ (k : ℕ). Passes (strings s (g .unique) (first (g .table) k))) (sym to) (old-passes s (x .passed .lent) g (x .passed .bytes) (x .passed .ok) (x .some)))
 
     module _ (m : ℕ) (is : Counted (chosen s 0 n (first (g .table) e)) m) where
       counted-old : Counted (chosen s 0 (g .unique) (first (g .table) (g .table + 4 + u16At s (g .table + 2)))) m
       counted-old = subst (λ (k : ℕ). Counted (chosen s 0 k (first (g .table) (g .table + 4 + u16At s (g .table + 2)))) m) unique (subst (λ (k : ℕ). Counted (chosen s 0 n (first (g .table) k)) m) to is)
 
       pub with-large : (b : List ℕ) → 16777216 < m → Refused 1 0 ≡ answerTo (compactedOf s g) b
-      with-large b h = answer-large (compactedOf s g) b (length (compactedOf s g)) refl (stream-large s (x .lent) g (x .few) (x .bytes) (x .ok) (x .some) m h counted-old)
+      with-large b h = answer-large (compactedOf s g) b (length (compactedOf s g)) refl (stream-large s (x .passed .lent) g (x .passed .few) (x .passed .bytes) (x .passed .ok) (x .some) m h counted-old)
 
       pub with-large-buffer : (b : List ℕ) → 16777216 < m → b ≡ bufferTo (compactedOf s g) b
-      with-large-buffer b h = buffer-large (compactedOf s g) b (length (compactedOf s g)) refl (stream-large s (x .lent) g (x .few) (x .bytes) (x .ok) (x .some) m h counted-old)
+      with-large-buffer b h = buffer-large (compactedOf s g) b (length (compactedOf s g)) refl (stream-large s (x .passed .lent) g (x .passed .few) (x .passed .bytes) (x .passed .ok) (x .some) m h counted-old)
 
       pub with-plan : (total count top : ℕ) → total ≡ length (textsIn s (entriesOf s)) → count ≡ usedBelow (textsIn s (entriesOf s)) n → m ≤ 16777216 → top ≡ topIn (textsIn s (entriesOf s)) 0
           → Prepared s g (record { head = g .table; end = e; unique = n; total = total; count = count; size = m }) top
-      with-plan total count top a b c d = prepared s (x .lent) g (x .few) (x .bytes) (x .ok) (x .some) (record { head = g .table; end = e; unique = n; total = total; count = count; size = m }) top refl to unique a b is c d
+      with-plan total count top a b c d = prepared s (x .passed .lent) g (x .passed .few) (x .passed .bytes) (x .passed .ok) (x .some) (record { head = g .table; end = e; unique = n; total = total; count = count; size = m }) top refl to unique a b is c d
 
 pub ruleset with-laws = (with-low, with-short, with-head, with-few, with-total, with-count, with-inside, with-passes, with-large, with-large-buffer, with-plan)
 

@@ -14,9 +14,9 @@ use Rattle.reading.specs.Claims.{Every}
 use Rattle.new_stream.specs.Entries.{Entry, text, entriesOf}
 use Rattle.new_table.specs.NewTable.{Bytes, newTable}
 use Rattle.table_chunks.specs.Chosen.{chosen}
-use Rattle.copied_records.specs.Copied.{copied}
-use Rattle.copy_changes.specs.Edited.{tableChange, sheetChange, edited, placeFor}
-use Rattle.new_indices.specs.Runs.{Reindexed}
+use Rattle.copied_records.specs.Copied.{edited, copiedEntry}
+use Rattle.new_fields.specs.Edited.{tableChange, sheetChange, placeFor}
+use Rattle.new_fields.specs.Runs.{Reindexed}
 use Rattle.compact.specs.declared.Plan.{Plan}
 
 -- the bytes of the new table
@@ -34,7 +34,7 @@ pub record Planned (s : List ℕ) (t : Plan) : Type 0 where
 
 -- what stays, and the new table in its place
 unfoldable pub tabled : List ℕ → Plan → List ℕ → List ℕ
-tabled s t o = edited (tableChange (bytesFor s t)) (t .size) (entriesOf s) (copied s (t .size) (entriesOf s) o 0) 0
+tabled s t o = edited (tableChange (bytesFor s t)) (t .size) (entriesOf s) (edited (copiedEntry s) (t .size) (entriesOf s) o 0) 0
 
 -- new indices below top, then new positions
 pub record Rewritten (s : List ℕ) (n top : ℕ) (o o′ : List ℕ) : Type 0 where
@@ -51,26 +51,17 @@ pub record Passed (s : List ℕ) (g : Globals) : Type 0 where
 
 -- and it has a table, or has none
 pub record Tabled (s : List ℕ) (g : Globals) : Type 0 where
-  pub bytes : Bytes s
-  pub lent : ℕ
-  pub few : lent ≤ 256 ^ 4
-  pub ok : checkedOf s lent ≡ Right g
+  pub passed : Passed s g
   pub some : g .table ≡ 0 → ⊥
 
 pub record Untabled (s : List ℕ) (g : Globals) : Type 0 where
-  pub bytes : Bytes s
-  pub lent : ℕ
-  pub few : lent ≤ 256 ^ 4
-  pub ok : checkedOf s lent ≡ Right g
+  pub passed : Passed s g
   pub no-table : g .table ≡ 0
 
 -- what is known before anything is written: the stream passes with the globals g and has a table, t is the plan for the new one, and each listed text index is
 -- below top
 pub record Prepared (s : List ℕ) (g : Globals) (t : Plan) (top : ℕ) : Type 0 where
-  pub bytes : Bytes s
-  pub lent : ℕ
-  pub few : lent ≤ 256 ^ 4
-  pub ok : checkedOf s lent ≡ Right g
+  pub passed : Passed s g
   pub some : g .table ≡ 0 → ⊥
   pub planned : Planned s t
   pub table : bytesFor s t ≡ newTable s g

@@ -6,7 +6,8 @@ ghost use Rattle.bytes.specs.Bytes.{u16At};
 ghost use Rattle.new_places.specs.Parts.{fated};
 ghost use Rattle.new_stream.specs.Entries.{entriesOf};
 ghost use Rattle.new_table.specs.NewTable.{compactedOf};
-ghost use Rattle.copy_changes.specs.Edited.{edited, tableChange, Roomy};
+ghost use Rattle.copied_records.specs.Copied.{edited};
+ghost use Rattle.new_fields.specs.Edited.{tableChange, Roomy};
 ghost use Rattle.compact.specs.Compacted.{answerTo, bufferTo, answerOf, bufferAfter};
 ghost use Rattle.compact.specs.Parts.{bytesFor, Planned, tabled, Rewritten, Passed, Tabled, Untabled, Prepared};
 use globals::Globals;
@@ -112,7 +113,7 @@ fn write_rest(
     requires { ⌜ Roomy (now s) size (length (now out)) × (length (now flags) ≡ length (now ranks)) × (0 < length (now flags)) × (length (now flags) ≤ 65536) × (top ≤ 4294967296) ⌝ }
     ensures { λ _. ⌜ Rewritten (now (s .entry)) size top (now (out .entry)) (now (out .exit)) ⌝ }
 {
-    new_indices::reindex(s, size, top, flags, ranks, out);
+    new_fields::reindex(s, size, top, flags, ranks, out);
     new_fields::put_positions(s, size, flags, out);
 }
 
@@ -180,7 +181,7 @@ fn with_flags(
     let head = g.table;
     let end = table_end(s, head);
     let unique = bytes::u32_as_usize(g.unique);
-    let texts = new_indices::count_texts(s);
+    let texts = new_fields::count_texts(s);
     let from = Cursor {
         seg: head,
         at: head + 12,

@@ -167,13 +167,13 @@ fn put_cells(
     v: usize,
     p: usize,
     m: u32,
-    z: &[u32; 3072],
+    z: &[u32; 3456],
     f: usize,
     t: &[u8],
     w: usize,
     q: usize,
     n: u32,
-    u: &[u32; 3072],
+    u: &[u32; 3456],
     g: usize,
     up: bool,
     common: u32,
@@ -182,7 +182,7 @@ fn put_cells(
     i: usize,
     out: &mut [u64],
 ) -> usize
-    requires { ⌜ Tabled (now s) p m × Marks (now s) p m f (now z) × Tabled (now t) q n × Marks (now t) q n g (now u) × When up (AscendFrom 0 (listedFrom (now s) (placeAt v 0)) × AscendFrom 0 (listedFrom (now t) (placeAt w 0))) × Common (stringsAt (now s) p) (stringsAt (now t) q) common × (key < 288230376151711745) ⌝ }
+    requires { ⌜ Tabled (now s) p m × Marks (now s) p (now s) p m f (now z) × Tabled (now t) q n × Marks (now s) p (now t) q n g (now u) × When up (AscendFrom 0 (listedFrom (now s) (placeAt v 0)) × AscendFrom 0 (listedFrom (now t) (placeAt w 0))) × Common (stringsAt (now s) p) (stringsAt (now t) q) common × (key < 288230376151711745) ⌝ }
     ensures { λ r. ⌜ r ≡ putTo (length (now (out .entry))) i (cellsSeen (now (s .entry)) v p (now (t .entry)) w q key from) ⌝ }
     ensures { λ r. ⌜ now (out .exit) ≡ puts (now (out .entry)) i (cellsSeen (now (s .entry)) v p (now (t .entry)) w q key from) ⌝ }
 {
@@ -221,13 +221,13 @@ fn put_sheet(
     x: SheetFound,
     p: usize,
     m: u32,
-    z: &[u32; 3072],
+    z: &[u32; 3456],
     f: usize,
     t: &[u8],
     y: SheetFound,
     q: usize,
     n: u32,
-    u: &[u32; 3072],
+    u: &[u32; 3456],
     g: usize,
     up: bool,
     common: u32,
@@ -236,7 +236,7 @@ fn put_sheet(
     i: usize,
     out: &mut [u64],
 ) -> usize
-    requires { ⌜ Tabled (now s) p m × Marks (now s) p m f (now z) × Tabled (now t) q n × Marks (now t) q n g (now u) × When up (AscendFrom 0 (listedFrom (now s) (placeAt (x .start) 0)) × AscendFrom 0 (listedFrom (now t) (placeAt (y .start) 0))) × Common (stringsAt (now s) p) (stringsAt (now t) q) common × Narrow (x .width) × Narrow (y .width) × (key < 288230376151711745) ⌝ }
+    requires { ⌜ Tabled (now s) p m × Marks (now s) p (now s) p m f (now z) × Tabled (now t) q n × Marks (now s) p (now t) q n g (now u) × When up (AscendFrom 0 (listedFrom (now s) (placeAt (x .start) 0)) × AscendFrom 0 (listedFrom (now t) (placeAt (y .start) 0))) × Common (stringsAt (now s) p) (stringsAt (now t) q) common × Narrow (x .width) × Narrow (y .width) × (key < 288230376151711745) ⌝ }
     ensures { λ r. ⌜ r ≡ putTo (length (now (out .entry))) i (sheetSeen (now (s .entry)) x p (now (t .entry)) y q key from) ⌝ }
     ensures { λ r. ⌜ now (out .exit) ≡ puts (now (out .entry)) i (sheetSeen (now (s .entry)) x p (now (t .entry)) y q key from) ⌝ }
 {
@@ -301,19 +301,19 @@ fn list(
     s: &[u8],
     p: usize,
     m: u32,
-    z: &[u32; 3072],
+    z: &[u32; 3456],
     f: usize,
     t: &[u8],
     q: usize,
     n: u32,
-    u: &[u32; 3072],
+    u: &[u32; 3456],
     g: usize,
     up: bool,
     common: u32,
     from: u64,
     out: &mut [u64],
 ) -> usize
-    requires { ⌜ Tabled (now s) p m × Marks (now s) p m f (now z) × Tabled (now t) q n × Marks (now t) q n g (now u) × When up (BothAscend (now s) (now t)) × Common (stringsAt (now s) p) (stringsAt (now t) q) common × (length (now s) ≤ 16777216) × (length (now t) ≤ 16777216) ⌝ }
+    requires { ⌜ Tabled (now s) p m × Marks (now s) p (now s) p m f (now z) × Tabled (now t) q n × Marks (now s) p (now t) q n g (now u) × When up (BothAscend (now s) (now t)) × Common (stringsAt (now s) p) (stringsAt (now t) q) common × (length (now s) ≤ 16777216) × (length (now t) ≤ 16777216) ⌝ }
     ensures { λ r. ⌜ r ≡ putTo (length (now (out .entry))) 0 (differences (bookOf (now (s .entry)) p) (bookOf (now (t .entry)) q) from) ⌝ }
     ensures { λ r. ⌜ now (out .exit) ≡ puts (now (out .entry)) 0 (differences (bookOf (now (s .entry)) p) (bookOf (now (t .entry)) q) from) ⌝ }
 {
@@ -355,7 +355,7 @@ fn list(
     j
 }
 
-// The same, with the tables of strings marked first: 12 KB of marks for each.
+// The same, with the tables of strings marked first: 14 KB of marks for each.
 fn list_marked(
     s: &[u8],
     p: usize,
@@ -372,10 +372,10 @@ fn list_marked(
     ensures { λ r. ⌜ r ≡ putTo (length (now (out .entry))) 0 (differences (bookOf (now (s .entry)) p) (bookOf (now (t .entry)) q) from) ⌝ }
     ensures { λ r. ⌜ now (out .exit) ≡ puts (now (out .entry)) 0 (differences (bookOf (now (s .entry)) p) (bookOf (now (t .entry)) q) from) ⌝ }
 {
-    let mut z = [0u32; 3072];
-    let mut u = [0u32; 3072];
-    let f = cell_equality::mark_table(s, p, m, &mut z);
-    let g = cell_equality::mark_table(t, q, n, &mut u);
+    let mut z = [0u32; 3456];
+    let mut u = [0u32; 3456];
+    let f = cell_equality::mark_first(s, p, m, &mut z);
+    let g = cell_equality::mark_second(s, p, m, &z, f, t, q, n, &mut u);
     list(s, p, m, &z, f, t, q, n, &u, g, up, common, from, out)
 }
 
@@ -399,7 +399,7 @@ fn list_both(
 {
     if up {
         if down {
-            let common = leading::leading(s, p, m, t, q, n);
+            let common = leading_strings::in_common(s, p, m, t, q, n);
             return list_marked(s, p, m, t, q, n, true, common, from, out);
         }
     }

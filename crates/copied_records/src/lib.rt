@@ -2,29 +2,12 @@
 ghost use mathlib.Core.Path.{_≡_};
 ghost use Prim.Native.Nat.{_+_, _≤_};
 ghost use lib.ListN.{length};
-ghost use lib.Seq.{sets};
 ghost use Rattle.new_places.specs.Parts.{fated};
 ghost use Rattle.new_stream.specs.Entries.{entriesOf};
-ghost use Rattle.new_stream.specs.Compact.{bytesAt};
-ghost use Rattle.copied_records.specs.Copied.{copiedEntry, sizeFor, sizes, copied};
+ghost use Rattle.copied_records.specs.Copied.{copiedEntry, sizeFor, sizes, edited};
 use new_places::Fate;
 use new_places::Spot;
 use new_places::Step;
-
-fn copy_bytes(s: &[u8], from: usize, size: usize, out: &mut [u8], at: usize)
-    requires { ⌜ (from + size ≤ length (now s)) × (at + size ≤ length (now out)) ⌝ }
-    ensures { λ _. ⌜ now (out .exit) ≡ sets (now (out .entry)) at (bytesAt (now (s .entry)) from size) ⌝ }
-{
-    let mut left = size;
-    let mut to = at;
-    let mut of = from;
-    while 0 < left {
-        out[to] = s[of];
-        to += 1;
-        of += 1;
-        left -= 1;
-    }
-}
 
 fn copy_entry(
     s: &[u8],
@@ -40,15 +23,15 @@ fn copy_entry(
 {
     match fate {
         Fate::Stays => {
-            copy_bytes(s, from, size, out, at);
+            bytes::copy(s, from, size, out, at);
         }
         Fate::Goes => {}
         Fate::Table => {}
         Fate::Text => {
-            copy_bytes(s, from, size, out, at);
+            bytes::copy(s, from, size, out, at);
         }
         Fate::Sheet => {
-            copy_bytes(s, from, size, out, at);
+            bytes::copy(s, from, size, out, at);
         }
     }
 }
@@ -56,7 +39,7 @@ fn copy_entry(
 // All that stays, each record at its new place.
 pub fn copy_kept(s: &[u8], out: &mut [u8], table: usize)
     requires { ⌜ (length (now s) ≤ 16777216) × (table ≤ 16777216) × (sizes table (entriesOf (now s)) ≤ length (now out)) ⌝ }
-    ensures { λ _. ⌜ now (out .exit) ≡ copied (now (s .entry)) table (entriesOf (now (s .entry))) (now (out .entry)) 0 ⌝ }
+    ensures { λ _. ⌜ now (out .exit) ≡ edited (copiedEntry (now (s .entry))) table (entriesOf (now (s .entry))) (now (out .entry)) 0 ⌝ }
 {
     let mut w = Spot {
         at: 0,
@@ -74,7 +57,7 @@ pub fn copy_kept(s: &[u8], out: &mut [u8], table: usize)
                 w = next;
             }
             Step::Rest => {
-                copy_bytes(s, at, s.len() - at, out, q);
+                bytes::copy(s, at, s.len() - at, out, q);
                 return;
             }
             Step::End => {

@@ -41,8 +41,8 @@ use Rattle.reading.specs.declared.Outside.{Outside}
 use Rattle.reading.specs.declared.Outside.the-variants as outside
 use Rattle.reading.specs.declared.Scanned.{Scanned}
 use Rattle.reading.specs.declared.Scanned.the-variants as scanned
-use Rattle.reading.specs.Scan.{scanOf}
-use Rattle.reading.proofs.Scanning.{Row, Passed, Scan, scan-says}
+use Rattle.reading.specs.Scan.{scanOf, Past}
+use Rattle.reading.proofs.Scanning.{Row, Passed, Scan, scan-says, past-list}
 use Rattle.listing.specs.declared.Sought.{Sought}
 use Rattle.listing.specs.declared.Sought.the-variants as sought
 use Rattle.listing.specs.Parts.{foundSheet}
@@ -279,11 +279,12 @@ module _ (s : List ℕ) (from row column at level : ℕ) (found : Target) (inv :
       passed-next : (listedFrom s (placeAt at level) ≡ listedFrom s (placeAt e m)) × (at < e) × (e ≤ length s)
       passed-next = subst (Passed s at level) i passed
 
-      pub next-less : length s - e < length s - at
-      next-less = let x = passed-next in omega arith
+      module _ (d : ℕ) (p : Past s m e d) where
+        pub next-less : length s - d < length s - at
+        next-less = let x = passed-next in let y = p .near in omega arith
 
-      pub next-again : Finding s from row column e m found
-      next-again = (inv .0 ∙ ap (λ (l : List Cell). joined found (cellsAt row column l)) (passed-next .0), inv .1)
+        pub next-again : Finding s from row column d m found
+        next-again = (inv .0 ∙ ap (λ (l : List Cell). joined found (cellsAt row column l)) (passed-next .0 ∙ past-list p), inv .1)
 
     pub found-all : o ≡ outside.End → found ≡ targetOf (cellsAt row column (listedFrom s (placeAt from 0)))
     unfolding cellsAt

@@ -164,7 +164,7 @@ fn find(s: &[u8], from: usize, row: u32, column: u32) -> Target
                     at: next,
                     level: inner,
                 } => {
-                    at = next;
+                    at = reading::past_others(s, next, inner);
                     level = inner;
                 }
                 Outside::End => {

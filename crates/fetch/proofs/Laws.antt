@@ -21,7 +21,7 @@ use Rattle.globals.specs.declared.Ended.{Ended}
 use Rattle.globals.specs.declared.Ended.the-variants as globals
 use Rattle.globals.specs.Globals.{globalsOf}
 use Rattle.globals.specs.Sheets.{sheetsOf}
-use Rattle.globals.proofs.Table.{Stands, TableTold, table-told}
+use Rattle.globals.proofs.Table.{Stands, table-told}
 use Rattle.top_level.specs.declared.Walked.{Walked}
 use Rattle.top_level.specs.declared.Walked.the-variants as walked
 use Rattle.top_level.specs.TopLevel.{topsFrom, bofsFrom}
@@ -30,16 +30,17 @@ use Rattle.workbook.specs.declared.Checked.the-variants.{Right, Wrong}
 use Rattle.workbook.specs.Check.{agreed, onWalked, onGlobals, checkedOf, onChecked}
 use Rattle.reading.specs.Reading.{stringsAt}
 use Rattle.fetch.specs.Fetch.{answerIn, answerOf, bufferIn, bufferAfter}
+use Rattle.fetch.specs.Parts.{TableAt}
 
 -- ---- the n-th of a list
 module _ {A B : Type 0} (f : A → B) (d : B) where
-  nth-there : (l : List A) (n : ℕ) → n < length l → (a : A) → f (getD l n a) ≡ nth l n f d
+  pub nth-there : (l : List A) (n : ℕ) → n < length l → (a : A) → f (getD l n a) ≡ nth l n f d
   unfolding nth
   nth-there [] n h a = absurd (omega arith)
   nth-there (x ∷ l) zero h a = refl
   nth-there (x ∷ l) (suc n) h a = nth-there l n (omega arith) a
 
-  nth-past : (l : List A) (n : ℕ) → length l ≤ n → d ≡ nth l n f d
+  pub nth-past : (l : List A) (n : ℕ) → length l ≤ n → d ≡ nth l n f d
   unfolding nth
   nth-past [] n h = refl
   nth-past (x ∷ l) zero h = absurd (omega arith)
@@ -75,13 +76,55 @@ pub strings-some : (s : List ℕ) (p : ℕ) → 0 < p → stringsAt s p ≡ stri
 unfolding stringsAt
 strings-some s p h = sym (pick-ne _ _ _ p 0 (λ i. omega arith) refl)
 
-told-count : (s : List ℕ) (g : Globals) → TableTold s 0 g → length (stringsAt s (g .table)) ≡ g .unique
-told-count s g (inl t) = ap length (strings-none s (g .table) (t .0)) ∙ sym (t .1)
-told-count s g (inr t) = ap length (strings-some s (g .table) (t .later)) ∙ strings-length s (g .table) (g .table + 4 + u16At s (g .table + 2)) ∙ t .count
+module _ (s : List ℕ) (p n i : ℕ) where
+  count-by : TableAt s p n → length (stringsAt s p) ≡ n
+  count-by (inl t) = ap length (strings-none s p (t .0)) ∙ sym (t .1)
+  count-by (inr t) = ap length (strings-some s p (t .later)) ∙ strings-length s p (p + 4 + u16At s (p + 2)) ∙ t .count
 
-told-stands : (s : List ℕ) (g : Globals) (i : ℕ) → i < g .unique → TableTold s 0 g → Stands s (g .table) (g .unique)
-told-stands s g i l (inl t) = absurd (omega arith)
-told-stands s g i l (inr t) = t
+  stands-by : i < n → TableAt s p n → Stands s p n
+  stands-by l (inl t) = absurd (omega arith)
+  stands-by l (inr t) = t
+
+  module _ (told : TableAt s p n) where
+    pub known-none : (m : ℕ) → n ≤ i → Refused 11 0 ≡ nth (stringsAt s p) i (fetchedOf m) (Refused 11 0)
+    known-none m l = nth-past _ _ (stringsAt s p) i (omega (arith, count-by told))
+
+    pub known-kept : (b : List ℕ) → n ≤ i → b ≡ nth (stringsAt s p) i (bufferOf b) b
+    known-kept b l = nth-past _ b (stringsAt s p) i (omega (arith, count-by told))
+
+    module _ (l : i < n) where
+      stands : Stands s p n
+      stands = stands-by l told
+
+      pub table-whole : p + 4 + u16At s (p + 2) ≤ length s
+      table-whole = stands .within
+
+      module _ (e j : ℕ) (end : e ≡ p + 4 + u16At s (p + 2)) (same : j ≡ i) where
+        pub table-low : p + 4 ≤ e
+        table-low = omega arith
+
+        pub table-within : e ≤ length s
+        table-within = let w = stands .within in omega arith
+
+        pub table-string : j < length (placesOf s p e)
+        table-string = rw end (let c = stands .count in omega arith)
+
+        string-is : {X : Type 0} (f : List ℕ → X) (d : X) → f (unitsOf s p e j) ≡ nth (stringsAt s p) i f d
+        string-is f d =
+            ap f (rw (end, same) (sym (ap (λ (x : List (List ℕ)). getD x i []) (strings-some s p (stands .later)) ∙ strings-at s p (p + 4 + u16At s (p + 2)) i)))
+            ∙ nth-there f d (stringsAt s p) i (omega (arith, count-by told)) []
+
+        pub known-there : (m : ℕ) (y : Fetched) → y ≡ fetchedOf m (unitsOf s p e j) → y ≡ nth (stringsAt s p) i (fetchedOf m) (Refused 11 0)
+        known-there m y k = k ∙ string-is (fetchedOf m) (Refused 11 0)
+
+        pub known-written : (b c : List ℕ) → c ≡ bufferOf b (unitsOf s p e j) → c ≡ nth (stringsAt s p) i (bufferOf b) b
+        known-written b c k = k ∙ string-is (bufferOf b) b
+
+pub ruleset table-laws = (table-whole, table-low, table-within, table-string)
+
+pub ruleset known-laws = (known-none, known-there)
+
+pub ruleset kept-laws = (known-kept, known-written)
 
 -- ---- the answer and the buffer
 module _ (s : List ℕ) (i : ℕ) (b : List ℕ) {r : Checked} (is : r ≡ checkedOf s 0) where
@@ -100,53 +143,17 @@ module _ (s : List ℕ) (i : ℕ) (b : List ℕ) {r : Checked} (is : r ≡ check
   buffer-wrong n o h = ap bufferBy (sym h ∙ is)
 
   module _ (g : Globals) (h : r ≡ Right g) where
-    told : TableTold s 0 g
-    told = table-told s 0 g (checked-globals s 0 g (sym h ∙ is))
-
-    pub fetch-absent : g .unique ≤ i → Refused 11 0 ≡ answerOf s i b
+    pub fetch-right : (y : Fetched) → y ≡ nth (stringsAt s (g .table)) i (fetchedOf (length b)) (Refused 11 0) → y ≡ answerOf s i b
     unfolding answerOf
-    fetch-absent l = nth-past (fetchedOf (length b)) (Refused 11 0) (stringsAt s (g .table)) i (omega (arith, told-count s g told)) ∙ ap answerBy (sym h ∙ is)
+    fetch-right y k = k ∙ ap answerBy (sym h ∙ is)
 
-    pub buffer-absent : g .unique ≤ i → b ≡ bufferAfter s i b
+    pub buffer-right : (c : List ℕ) → c ≡ nth (stringsAt s (g .table)) i (bufferOf b) b → c ≡ bufferAfter s i b
     unfolding bufferAfter
-    buffer-absent l = nth-past _ b (stringsAt s (g .table)) i (omega (arith, told-count s g told)) ∙ ap bufferBy (sym h ∙ is)
+    buffer-right c k = k ∙ ap bufferBy (sym h ∙ is)
 
-    module _ (l : i < g .unique) where
-      stands : Stands s (g .table) (g .unique)
-      stands = told-stands s g i l told
+pub table-at : (s : List ℕ) {r : Checked} → r ≡ checkedOf s 0 → (g : Globals) → r ≡ Right g → TableAt s (g .table) (g .unique)
+table-at s is g h = table-told s 0 g (checked-globals s 0 g (sym h ∙ is))
 
-      pub table-whole : g .table + 4 + u16At s (g .table + 2) ≤ length s
-      table-whole = stands .within
+pub ruleset fetch-laws = (fetch-wrong, fetch-right)
 
-      module _ (e j : ℕ) (end : e ≡ g .table + 4 + u16At s (g .table + 2)) (same : j ≡ i) where
-        pub table-low : g .table + 4 ≤ e
-        table-low = omega arith
-
-        pub table-within : e ≤ length s
-        table-within = let w = stands .within in omega arith
-
-        pub table-string : j < length (placesOf s (g .table) e)
-        table-string = rw end (let c = stands .count in omega arith)
-
-        units-are : unitsOf s (g .table) e j ≡ getD (stringsAt s (g .table)) i []
-        units-are = rw (end, same) (sym (ap (λ (x : List (List ℕ)). getD x i []) (strings-some s (g .table) (stands .later)) ∙ strings-at s (g .table) (g .table + 4 + u16At s (g .table + 2)) i))
-
-        pub fetch-there : (y : Fetched) → y ≡ fetchedOf (length b) (unitsOf s (g .table) e j) → y ≡ answerOf s i b
-        unfolding answerOf
-        fetch-there y k =
-            k ∙ ap (fetchedOf (length b)) units-are
-            ∙ nth-there (fetchedOf (length b)) (Refused 11 0) (stringsAt s (g .table)) i (omega (arith, told-count s g told)) []
-            ∙ ap answerBy (sym h ∙ is)
-
-        pub buffer-there : (c : List ℕ) → c ≡ bufferOf b (unitsOf s (g .table) e j) → c ≡ bufferAfter s i b
-        unfolding bufferAfter
-        buffer-there c k =
-            k ∙ ap (bufferOf b) units-are
-            ∙ nth-there (bufferOf b) b (stringsAt s (g .table)) i (omega (arith, told-count s g told)) []
-            ∙ ap bufferBy (sym h ∙ is)
-
-pub ruleset fetch-laws = (fetch-wrong, fetch-absent, fetch-there)
-
-pub ruleset buffer-laws = (buffer-wrong, buffer-absent, buffer-there)
-
-pub ruleset table-laws = (table-whole, table-low, table-within, table-string)
+pub ruleset buffer-laws = (buffer-wrong, buffer-right)

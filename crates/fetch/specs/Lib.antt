@@ -1,3 +1,4 @@
 pub mod Fetch
 pub mod Strings
+pub mod Parts
 pub mod Claims

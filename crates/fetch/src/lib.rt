@@ -2,10 +2,13 @@
 ghost use mathlib.Core.Path.{_≡_};
 ghost use Prim.Native.Nat.{_+_, _≤_};
 ghost use lib.ListN.{length};
+ghost use Rattle.steps.specs.Items.{nth};
 ghost use Rattle.bytes.specs.Bytes.{u16At};
 ghost use Rattle.segments.specs.Parts.{Inside};
-ghost use Rattle.strings.specs.Table.{stringAt, nowhere};
+ghost use Rattle.strings.specs.Table.{stringAt, nowhere, fetchedOf, bufferOf};
+ghost use Rattle.reading.specs.Reading.{stringsAt};
 ghost use Rattle.fetch.specs.Fetch.{answerOf, bufferAfter};
+ghost use Rattle.fetch.specs.Parts.{TableAt};
 ghost use Rattle.fetch.specs.Strings.{firstOf, nextSeen, nextStringOf, bufferSeen, nextBuffer};
 use segments::Cursor;
 use segments::Moved;
@@ -27,6 +30,23 @@ fn table_end(s: &[u8], p: usize) -> usize
     p + 4 + bytes::u16_as_usize(bytes::u16_at(s, p + 2))
 }
 
+// String `index` of the n strings of the SST at p; p is 0 where there is none.
+// Only this crate and `pair_texts` call it, each after the check.
+pub fn fetch_known(s: &[u8], p: usize, n: u32, index: u32, buf: &mut [u16]) -> Fetched
+    requires { ⌜ TableAt (now s) p n ⌝ }
+    ensures { λ r. ⌜ r ≡ nth (stringsAt (now (s .entry)) p) index (fetchedOf (length (now (buf .entry)))) (Fetched.Refused 11 0) ⌝ }
+    ensures { λ r. ⌜ now (buf .exit) ≡ nth (stringsAt (now (s .entry)) p) index (bufferOf (now (buf .entry))) (now (buf .entry)) ⌝ }
+{
+    if n <= index {
+        return Fetched::Refused {
+            number: 11,
+            offset: 0,
+        };
+    }
+    let end = table_end(s, p);
+    strings::fetch_string(s, p, end, bytes::u32_as_usize(index), buf)
+}
+
 // The units of string `index`, counted from 0, at the front of the buffer; the answer says how many.
 pub fn fetch(s: &[u8], index: u32, buf: &mut [u16]) -> Fetched
     ensures { λ r. ⌜ r ≡ answerOf (now (s .entry)) index (now (buf .entry)) ⌝ }
@@ -34,18 +54,7 @@ pub fn fetch(s: &[u8], index: u32, buf: &mut [u16]) -> Fetched
 {
     match workbook::check_with(s, 0) {
         Checked::Wrong { number, offset } => Fetched::Refused { number, offset },
-        Checked::Right(g) => {
-            let table = g.table;
-            let unique = g.unique;
-            if unique <= index {
-                return Fetched::Refused {
-                    number: 11,
-                    offset: 0,
-                };
-            }
-            let end = table_end(s, table);
-            strings::fetch_string(s, table, end, bytes::u32_as_usize(index), buf)
-        }
+        Checked::Right(g) => fetch_known(s, g.table, g.unique, index, buf),
     }
 }
 

@@ -2,8 +2,14 @@
 use Prim.Native.Nat.{ℕ, _+_, _≤_, _<_}
 use mathlib.Core.Bool.{Bool, true, false}
 use mathlib.Core.List.{List}
+use lib.Dec.{ltb, eqb}
 use lib.ListN.{length}
+use Rattle.steps.specs.Choice.{pick}
 use Rattle.journal.specs.Entries.{put, Entry, countIn, entryAt}
+
+-- so many old bytes, and both numbers below a limit
+abbrev pub countsBelow : ℕ → ℕ → ℕ → ℕ → ℕ → ℕ → Bool
+countsBelow olds before after width old new = pick (eqb width olds) (pick (ltb old before) (ltb new after) false) false
 
 -- one entry more lies within the journal
 pub record Room (j : List ℕ) : Type 0 where

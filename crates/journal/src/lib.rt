@@ -4,8 +4,8 @@ ghost use Prim.Native.Nat.{_+_, _*_, _≤_};
 ghost use lib.ListN.{length};
 ghost use Rattle.bytes.specs.Bytes.{numAt, bytesOf};
 ghost use Rattle.value.specs.Value.{widthOf};
-ghost use Rattle.journal.specs.Entries.{header, numberFits, countsFit, entryFits, fitsAt, entriesFit, journalFits, roomFor, entered, logged};
-ghost use Rattle.journal.specs.EntryParts.{addressed, valued, Room, RoomIf, entryBy};
+ghost use Rattle.journal.specs.Entries.{header, numberFits, entryFits, fitsAt, entriesFit, journalFits, roomFor, entered, logged};
+ghost use Rattle.journal.specs.EntryParts.{countsBelow, addressed, valued, Room, RoomIf, entryBy};
 ghost use lib.Seq.{sets};
 ghost use Rattle.correction.specs.Correction.{answerOf, streamAfter};
 ghost use Rattle.journal.specs.Journal.{startIn, startOf, startAnswer, startedJournal, onRoom, spotIn, journalledIn, journalledOf, kindOf, numberOf, journalAfter, entryOf};
@@ -25,38 +25,18 @@ fn number_fits(width: u16, old: u64) -> bool
         return true;
     }
     if width == 4 {
-        if old < 0x1_0000_0000 {
-            return true;
-        }
-        return false;
+        return old < 0x1_0000_0000;
     }
     false
 }
 
-fn index_fits(width: u16, old: u64, new: u64) -> bool
-    ensures { λ r. ⌜ r ≡ countsFit 4 4 width old new ⌝ }
+// So many old bytes, their number below `before`, and that of the new ones below `after`.
+fn counts_fit(olds: u16, before: u64, after: u64, width: u16, old: u64, new: u64) -> bool
+    ensures { λ r. ⌜ r ≡ countsBelow olds before after width old new ⌝ }
 {
-    if width == 4 {
-        if old < 0x1_0000_0000 {
-            if new < 0x1_0000_0000 {
-                return true;
-            }
-            return false;
-        }
-        return false;
-    }
-    false
-}
-
-fn pair_fits(width: u16, old: u64, new: u64) -> bool
-    ensures { λ r. ⌜ r ≡ countsFit 2 1 width old new ⌝ }
-{
-    if width == 2 {
-        if old < 0x1_0000 {
-            if new < 0x100 {
-                return true;
-            }
-            return false;
+    if width == olds {
+        if old < before {
+            return new < after;
         }
         return false;
     }
@@ -70,13 +50,13 @@ fn entry_fits(kind: u16, width: u16, old: u64, new: u64) -> bool
         return number_fits(width, old);
     }
     if kind == 1 {
-        return index_fits(width, old, new);
+        return counts_fit(4, 0x1_0000_0000, 0x1_0000_0000, width, old, new);
     }
     if kind == 2 {
-        return pair_fits(width, old, new);
+        return counts_fit(2, 0x1_0000, 0x100, width, old, new);
     }
     if kind == 3 {
-        return pair_fits(width, old, new);
+        return counts_fit(2, 0x1_0000, 0x100, width, old, new);
     }
     false
 }

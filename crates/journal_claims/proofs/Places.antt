@@ -52,20 +52,51 @@ module _ (j : List ℕ) (e : ℕ) (x : Entry) where
   abbrev j₇ : List ℕ
   j₇ = put (e + 20) 8 (x .new) j₆
 
+  len₁ : length j₁ ≡ length j
+  len₁ = put-length j e 4 (x .sheet)
+
+  len₂ : length j₂ ≡ length j
+  len₂ = put-length j₁ (e + 4) 2 (x .row) ∙ len₁
+
+  len₃ : length j₃ ≡ length j
+  len₃ = put-length j₂ (e + 6) 2 (x .column) ∙ len₂
+
+  len₄ : length j₄ ≡ length j
+  len₄ = put-length j₃ (e + 8) 2 (x .kind) ∙ len₃
+
+  len₅ : length j₅ ≡ length j
+  len₅ = put-length j₄ (e + 10) 2 (x .width) ∙ len₄
+
+  len₆ : length j₆ ≡ length j
+  len₆ = put-length j₅ (e + 12) 8 (x .old) ∙ len₅
+
   pub entered-length : length (entered e x j) ≡ length j
   unfolding entered
-  entered-length = put-length j₆ (e + 20) 8 (x .new) ∙ put-length j₅ (e + 12) 8 (x .old) ∙ put-length j₄ (e + 10) 2 (x .width) ∙ put-length j₃ (e + 8) 2 (x .kind) ∙ put-length j₂ (e + 6) 2 (x .column) ∙ put-length j₁ (e + 4) 2 (x .row) ∙ put-length j e 4 (x .sheet)
+  entered-length = put-length j₆ (e + 20) 8 (x .new) ∙ len₆
+
+  -- what stands before a number is as it was when that was written
+  module _ (v p : ℕ) where
+    since₆ : p + v ≤ e + 20 → numAt j₇ v p ≡ numAt j₆ v p
+    since₆ h = put-else j₆ (e + 20) 8 (x .new) v p (inl h)
+
+    since₅ : p + v ≤ e + 12 → numAt j₇ v p ≡ numAt j₅ v p
+    since₅ h = since₆ (omega arith) ∙ put-else j₅ (e + 12) 8 (x .old) v p (inl h)
+
+    since₄ : p + v ≤ e + 10 → numAt j₇ v p ≡ numAt j₄ v p
+    since₄ h = since₅ (omega arith) ∙ put-else j₄ (e + 10) 2 (x .width) v p (inl h)
+
+    since₃ : p + v ≤ e + 8 → numAt j₇ v p ≡ numAt j₃ v p
+    since₃ h = since₄ (omega arith) ∙ put-else j₃ (e + 8) 2 (x .kind) v p (inl h)
+
+    since₂ : p + v ≤ e + 6 → numAt j₇ v p ≡ numAt j₂ v p
+    since₂ h = since₃ (omega arith) ∙ put-else j₂ (e + 6) 2 (x .column) v p (inl h)
+
+    since₁ : p + v ≤ e + 4 → numAt j₇ v p ≡ numAt j₁ v p
+    since₁ h = since₂ (omega arith) ∙ put-else j₁ (e + 4) 2 (x .row) v p (inl h)
 
   pub entered-else : (v p : ℕ) → (p + v ≤ e) ⊎ (e + 28 ≤ p) → numAt (entered e x j) v p ≡ numAt j v p
   unfolding entered
-  entered-else v p (inl h) =
-      put-else j₆ (e + 20) 8 (x .new) v p (inl (omega arith))
-      ∙ put-else j₅ (e + 12) 8 (x .old) v p (inl (omega arith))
-      ∙ put-else j₄ (e + 10) 2 (x .width) v p (inl (omega arith))
-      ∙ put-else j₃ (e + 8) 2 (x .kind) v p (inl (omega arith))
-      ∙ put-else j₂ (e + 6) 2 (x .column) v p (inl (omega arith))
-      ∙ put-else j₁ (e + 4) 2 (x .row) v p (inl (omega arith))
-      ∙ put-else j e 4 (x .sheet) v p (inl (omega arith))
+  entered-else v p (inl h) = since₁ v p (omega arith) ∙ put-else j e 4 (x .sheet) v p (inl h)
   entered-else v p (inr h) =
       put-else j₆ (e + 20) 8 (x .new) v p (inr (omega arith))
       ∙ put-else j₅ (e + 12) 8 (x .old) v p (inr (omega arith))
@@ -76,72 +107,26 @@ module _ (j : List ℕ) (e : ℕ) (x : Entry) where
       ∙ put-else j e 4 (x .sheet) v p (inr (omega arith))
 
   module _ (room : e + 28 ≤ length j) (small : Small x) where
-    len₁ : length j₁ ≡ length j
-    len₁ = put-length j e 4 (x .sheet)
-
-    len₂ : length j₂ ≡ length j
-    len₂ = put-length j₁ (e + 4) 2 (x .row) ∙ put-length j e 4 (x .sheet)
-
-    len₃ : length j₃ ≡ length j
-    len₃ = put-length j₂ (e + 6) 2 (x .column) ∙ put-length j₁ (e + 4) 2 (x .row) ∙ put-length j e 4 (x .sheet)
-
-    len₄ : length j₄ ≡ length j
-    len₄ = put-length j₃ (e + 8) 2 (x .kind) ∙ put-length j₂ (e + 6) 2 (x .column) ∙ put-length j₁ (e + 4) 2 (x .row) ∙ put-length j e 4 (x .sheet)
-
-    len₅ : length j₅ ≡ length j
-    len₅ = put-length j₄ (e + 10) 2 (x .width) ∙ put-length j₃ (e + 8) 2 (x .kind) ∙ put-length j₂ (e + 6) 2 (x .column) ∙ put-length j₁ (e + 4) 2 (x .row) ∙ put-length j e 4 (x .sheet)
-
-    len₆ : length j₆ ≡ length j
-    len₆ = put-length j₅ (e + 12) 8 (x .old) ∙ put-length j₄ (e + 10) 2 (x .width) ∙ put-length j₃ (e + 8) 2 (x .kind) ∙ put-length j₂ (e + 6) 2 (x .column) ∙ put-length j₁ (e + 4) 2 (x .row) ∙ put-length j e 4 (x .sheet)
-
     read-sheet : numAt j₇ 4 e ≡ x .sheet
-    read-sheet =
-        put-else j₆ (e + 20) 8 (x .new) 4 e (inl (omega arith))
-        ∙ put-else j₅ (e + 12) 8 (x .old) 4 e (inl (omega arith))
-        ∙ put-else j₄ (e + 10) 2 (x .width) 4 e (inl (omega arith))
-        ∙ put-else j₃ (e + 8) 2 (x .kind) 4 e (inl (omega arith))
-        ∙ put-else j₂ (e + 6) 2 (x .column) 4 e (inl (omega arith))
-        ∙ put-else j₁ (e + 4) 2 (x .row) 4 e (inl (omega arith))
-        ∙ put-here j e 4 (x .sheet) (omega arith) (small .sheet)
+    read-sheet = since₁ 4 e (omega arith) ∙ put-here j e 4 (x .sheet) (omega arith) (small .sheet)
 
     read-row : numAt j₇ 2 (e + 4) ≡ x .row
-    read-row =
-        put-else j₆ (e + 20) 8 (x .new) 2 (e + 4) (inl (omega arith))
-        ∙ put-else j₅ (e + 12) 8 (x .old) 2 (e + 4) (inl (omega arith))
-        ∙ put-else j₄ (e + 10) 2 (x .width) 2 (e + 4) (inl (omega arith))
-        ∙ put-else j₃ (e + 8) 2 (x .kind) 2 (e + 4) (inl (omega arith))
-        ∙ put-else j₂ (e + 6) 2 (x .column) 2 (e + 4) (inl (omega arith))
-        ∙ put-here j₁ (e + 4) 2 (x .row) (let l = len₁ in omega arith) (small .row)
+    read-row = since₂ 2 (e + 4) (omega arith) ∙ put-here j₁ (e + 4) 2 (x .row) (let l = len₁ in omega arith) (small .row)
 
     read-column : numAt j₇ 2 (e + 6) ≡ x .column
-    read-column =
-        put-else j₆ (e + 20) 8 (x .new) 2 (e + 6) (inl (omega arith))
-        ∙ put-else j₅ (e + 12) 8 (x .old) 2 (e + 6) (inl (omega arith))
-        ∙ put-else j₄ (e + 10) 2 (x .width) 2 (e + 6) (inl (omega arith))
-        ∙ put-else j₃ (e + 8) 2 (x .kind) 2 (e + 6) (inl (omega arith))
-        ∙ put-here j₂ (e + 6) 2 (x .column) (let l = len₂ in omega arith) (small .column)
+    read-column = since₃ 2 (e + 6) (omega arith) ∙ put-here j₂ (e + 6) 2 (x .column) (let l = len₂ in omega arith) (small .column)
 
     read-kind : numAt j₇ 2 (e + 8) ≡ x .kind
-    read-kind =
-        put-else j₆ (e + 20) 8 (x .new) 2 (e + 8) (inl (omega arith))
-        ∙ put-else j₅ (e + 12) 8 (x .old) 2 (e + 8) (inl (omega arith))
-        ∙ put-else j₄ (e + 10) 2 (x .width) 2 (e + 8) (inl (omega arith))
-        ∙ put-here j₃ (e + 8) 2 (x .kind) (let l = len₃ in omega arith) (small .kind)
+    read-kind = since₄ 2 (e + 8) (omega arith) ∙ put-here j₃ (e + 8) 2 (x .kind) (let l = len₃ in omega arith) (small .kind)
 
     read-width : numAt j₇ 2 (e + 10) ≡ x .width
-    read-width =
-        put-else j₆ (e + 20) 8 (x .new) 2 (e + 10) (inl (omega arith))
-        ∙ put-else j₅ (e + 12) 8 (x .old) 2 (e + 10) (inl (omega arith))
-        ∙ put-here j₄ (e + 10) 2 (x .width) (let l = len₄ in omega arith) (small .width)
+    read-width = since₅ 2 (e + 10) (omega arith) ∙ put-here j₄ (e + 10) 2 (x .width) (let l = len₄ in omega arith) (small .width)
 
     read-old : numAt j₇ 8 (e + 12) ≡ x .old
-    read-old =
-        put-else j₆ (e + 20) 8 (x .new) 8 (e + 12) (inl (omega arith))
-        ∙ put-here j₅ (e + 12) 8 (x .old) (let l = len₅ in omega arith) (small .old)
+    read-old = since₆ 8 (e + 12) (omega arith) ∙ put-here j₅ (e + 12) 8 (x .old) (let l = len₅ in omega arith) (small .old)
 
     read-new : numAt j₇ 8 (e + 20) ≡ x .new
-    read-new =
-        put-here j₆ (e + 20) 8 (x .new) (let l = len₆ in omega arith) (small .new)
+    read-new = put-here j₆ (e + 20) 8 (x .new) (let l = len₆ in omega arith) (small .new)
 
     pub entered-in : entryIn (entered e x j) e ≡ x
     unfolding entryIn entered

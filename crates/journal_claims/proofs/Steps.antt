@@ -38,6 +38,7 @@ use Rattle.passes_after.proofs.Stored.{number-now}
 use Rattle.either_order.proofs.Sets.{stored-over}
 use Rattle.journal_claims.proofs.Aims.{stored-same, Only, aimed-only, one-stored, aimed-unique, aim-stays}
 use Rattle.journal.specs.Entries.{countIn, entryAt, Entry, numberFits, countsFit, entryFits, journalFits, roomFor}
+use Rattle.journal.proofs.Laws.{width-small}
 use Rattle.journal.specs.EntryParts.{Room}
 use Rattle.journal.specs.Journal.{onRoom, spotIn, planned, onSpot, journalledIn, journalledOf, kindOf, numberOf, entryOf}
 use Rattle.replay_entry.specs.Steps.{entryPlan, holds, onMake, onUndo, passesIn, makeAt, undoAt, makeOf, undoOf}
@@ -137,14 +138,6 @@ stored-bytes zero n s p h = h
 stored-bytes (suc w) n s p h = stored-bytes w _ (set s p (n % 256)) (suc p) (set-bytes s p (n % 256) (omega arith) h)
 
 -- ---- the entry's numbers
-width-small : (f : Field) → widthOf f ≤ 8
-width-small NoField = omega arith
-width-small Float = omega arith
-width-small RkWord = omega arith
-width-small TextIndex = omega arith
-width-small TruthError = omega arith
-width-small StoredResult = omega arith
-
 old-small : (f : Field) (n : ℕ) → n < 256 ^ widthOf f → n < 256 ^ 8
 old-small NoField n h = omega arith
 old-small Float n h = omega arith
@@ -246,7 +239,7 @@ module _ {s : List ℕ} {u t : ℕ} {j : List ℕ} {n row column : ℕ} {v : New
       let c = column-small right in
       let d = only .row-is in
       let e = only .column-is in
-      let k = width-small f in
+      let k = width-small f refl in
       record { sheet = omega arith; row = omega arith; column = omega arith; kind = kind-small v; width = omega arith; old = old-small f old (num-small s (widthOf f) p bytes); new = new-small v held }
 
   pub entry-form : Well x

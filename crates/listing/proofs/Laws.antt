@@ -35,7 +35,9 @@ use Rattle.reading.specs.declared.Outside.{Outside}
 use Rattle.reading.specs.Parts.{outsideItem}
 use Rattle.reading.specs.Cells.{placeAt, nextPart, otherItem, onFound, recordItem, onHeader, cellItem, remaining, listedFrom}
 use Rattle.reading.specs.Reading.{onName, nameAt, widthAt, typeAt, startBy, startOf, listedOf, rowsOf, trailingSize, trailingBytes}
+use Rattle.reading.specs.Scan.{PastFrom}
 use Rattle.reading.proofs.Laws.{count-small, found-there, cell-here, item-near, listed-step}
+use Rattle.reading.proofs.Scanning.{leads-same}
 use Rattle.listing.specs.declared.Description.{Description}
 use Rattle.listing.specs.declared.Description.the-variants as description
 use Rattle.listing.specs.declared.Start.{Start}
@@ -97,17 +99,21 @@ module _ (s : List ℕ) where
   pub falls : (v w : Place) → go v ≡ more w → remaining s w < remaining s v
   falls v w h = falls-by v w (cellItem s v) (item-near s v) h
 
+  -- from a record on that has no cell here
+  pub next-past : (v w : Place) → cellItem s v ≡ skips w → nextOf s v ≡ nextOf s w
+  unfolding nextOf
+  next-past v w h = run-more go listed.End (remaining s) falls (ap onItem h)
+
   module _ (v₀ v : Place) (r : Step) (is : itemOf r ≡ cellItem s v) where
     by-step : (x : Step) → r ≡ x → go v ≡ onItem (itemOf x)
     by-step x h = ap onItem (sym is ∙ ap itemOf h)
 
-    pub less-skip : (w : Place) → r ≡ step.Skips w → remaining s w < remaining s v
-    less-skip w h = falls v w (by-step _ h)
+    pub less-skip : (w : Place) → r ≡ step.Skips w → (d : Place) → PastFrom s w d → remaining s d < remaining s v
+    less-skip w h d p = let a = falls v w (by-step _ h) in let b = p .near in omega arith
 
     module _ (inv : nextOf s v₀ ≡ nextOf s v) where
-      pub next-skip : (w : Place) → r ≡ step.Skips w → nextOf s v₀ ≡ nextOf s w
-      unfolding nextOf
-      next-skip w h = inv ∙ run-more go listed.End (remaining s) falls (by-step _ h)
+      pub next-skip : (w : Place) → r ≡ step.Skips w → (d : Place) → PastFrom s w d → nextOf s v₀ ≡ nextOf s d
+      next-skip w h d p = inv ∙ next-past v w (sym is ∙ ap itemOf h) ∙ leads-same s (nextOf s) next-past w d (p .leads)
 
       pub next-cell : (c : Cell) (w : Place) → r ≡ step.Gives c w → listed.Cell c w ≡ nextOf s v₀
       unfolding nextOf
@@ -119,12 +125,8 @@ module _ (s : List ℕ) where
 
 pub ruleset next-laws = (less-skip, next-skip, next-cell, next-end)
 
--- from a record on that has no cell here
+-- where the list ends
 module _ (s : List ℕ) (v : Place) where
-  pub next-past : (w : Place) → cellItem s v ≡ skips w → nextOf s v ≡ nextOf s w
-  unfolding nextOf
-  next-past w h = run-more (go s) listed.End (remaining s) (falls s) (ap onItem h)
-
   pub next-over : cellItem s v ≡ ends → nextOf s v ≡ listed.End
   unfolding nextOf
   next-over h = run-stop (go s) listed.End (remaining s) (falls s) (ap onItem h)

@@ -150,7 +150,7 @@ pub fn next_cell(s: &[u8], from: Place) -> Listed
                 return Listed::Cell { cell, next };
             }
             Step::Skips(next) => {
-                v = next;
+                v = reading::past_from(s, next);
             }
             Step::Ends => {
                 return Listed::End;

@@ -30,7 +30,7 @@ use Rattle.segments.specs.Segments.{got}
 use Rattle.text_result.specs.TextResult.{hasText, textOf}
 use Rattle.passes_after.specs.Local.{Moves}
 use Rattle.passes_after.proofs.Steps.{record-local}
-use Rattle.moved_records.specs.Later.{laterStep}
+use Rattle.moved_records.proofs.Later.{laterStep}
 use Rattle.moved_records.proofs.Views.{num-drop, num-at, record-drop}
 
 module _ (s t : List ℕ) (p q : ℕ) where

@@ -15,7 +15,7 @@ use Rattle.segments.specs.declared.Cursor.{Cursor}
 use Rattle.segments.specs.Segments.{Got, got, refused, then, push, on, continues, segmentOf, nextSegment, filled, need, widthOf, enter, room, items}
 use Rattle.value.specs.Value.{resultOf}
 use Rattle.text_result.specs.TextResult.{isText, hasText, between, pastOne, stringPlace, isString, startSize, stringAt, body, onString, textAt, textOf}
-use Rattle.moved_records.specs.Later.{laterHeader, laterCursor, laterGot}
+use Rattle.moved_records.proofs.Later.{laterHeader, laterCursor, laterGot}
 use Rattle.moved_records.proofs.Numbers.{pick-map, leb-same, eqb-later, num-drop, num-at, byte-at}
 
 -- ---- what is read one after the other

@@ -19,7 +19,7 @@ use Rattle.substream.specs.declared.Step.the-variants.{Open, Stop}
 use Rattle.substream.specs.Substream.{innerBof, otherRecord, dimensionsFit, dimensionsRecord, onText, passedRecord, onJudged, recordIn}
 use Rattle.segments.specs.Segments.{Got, got, refused}
 use Rattle.text_result.specs.TextResult.{textOf}
-use Rattle.moved_records.specs.Later.{laterGot, laterJudged, laterStep}
+use Rattle.moved_records.proofs.Later.{laterGot, laterJudged, laterStep}
 pub use Rattle.moved_records.proofs.Numbers.{pick-map, num-drop, num-at}
 use Rattle.moved_records.proofs.Texts.{text-drop, has-drop}
 

@@ -10,12 +10,16 @@ use lib.Seq.{sets, length-sets}
 use Rattle.steps.proofs.Choice.{pick-any, pick-le, pick-nle, pick-lt, pick-nlt}
 use Rattle.bytes.specs.Bytes.{u32At, bytesOf}
 use Rattle.new_stream.specs.Entries as entries
-use Rattle.new_stream.specs.Entries.{entriesOf}
+use Rattle.new_stream.specs.Entries.{entryItem, entriesOf}
 use Rattle.new_places.specs.declared.Fate.{Fate}
 use Rattle.new_places.specs.declared.Fate.the-variants.{Stays, Goes, Table, Text, Sheet}
-use Rattle.new_places.specs.Parts.{fated}
-use Rattle.copy_changes.specs.Edited.{textChange, sheetChange, Roomy, placeFor}
-use Rattle.copy_changes.proofs.Editing.{Keeps, Editing, editing-start}
+use Rattle.new_places.specs.Parts.{fated, spotOf, itemOf}
+use Rattle.new_places.specs.declared.Spot.{Spot}
+use Rattle.new_places.specs.declared.Step.{Step}
+use Rattle.new_places.specs.declared.Step.the-variants.{Record}
+use Rattle.copied_records.specs.Copied.{sizeFor, Change}
+use Rattle.copied_records.proofs.Editing.{Keeps, Editing, editing-start, editing-room, editing-here, edit-laws}
+use Rattle.new_fields.specs.Edited.{textChange, sheetChange, Good, Roomy, placeFor}
 use Rattle.flags.specs.Flags.{setBelow}
 use Rattle.new_fields.specs.Ranks.{rankIn}
 
@@ -66,32 +70,48 @@ pub ruleset position-laws = (position-here)
 
 -- ---- the walks
 pub text-keeps : (s : List ℕ) (index : ℕ → ℕ) (base m : ℕ) → Keeps (textChange s index base m)
-text-keeps s index base m = record { long = long; stays = λ p z o q. refl }
-  where
-    long : (p z : ℕ) (x : entries.Fate) (o : List ℕ) (q : ℕ) → length (textChange s index base m p z x o q) ≡ length o
-    long p z entries.stays o q = refl
-    long p z entries.goes o q = refl
-    long p z entries.table o q = refl
-    long p z entries.text o q = pick-any (λ (y : List ℕ). length y ≡ length o) _ (pick-any (λ (y : List ℕ). length y ≡ length o) _ (length-sets o (q + 10) (bytesOf 4 (index (u32At s (p + 10))))) refl) refl
-    long p z entries.sheet o q = refl
+text-keeps s index base m p z entries.stays o q = refl
+text-keeps s index base m p z entries.goes o q = refl
+text-keeps s index base m p z entries.table o q = refl
+text-keeps s index base m p z entries.text o q = pick-any (λ (y : List ℕ). length y ≡ length o) _ (pick-any (λ (y : List ℕ). length y ≡ length o) _ (length-sets o (q + 10) (bytesOf 4 (index (u32At s (p + 10))))) refl) refl
+text-keeps s index base m p z entries.sheet o q = refl
 
 sheet-keeps : (s : List ℕ) (place : ℕ → ℕ) → Keeps (sheetChange s place)
-sheet-keeps s place = record { long = long; stays = λ p z o q. refl }
-  where
-    long : (p z : ℕ) (x : entries.Fate) (o : List ℕ) (q : ℕ) → length (sheetChange s place p z x o q) ≡ length o
-    long p z entries.stays o q = refl
-    long p z entries.goes o q = refl
-    long p z entries.table o q = refl
-    long p z entries.text o q = refl
-    long p z entries.sheet o q = length-sets o (q + 4) (bytesOf 4 (place (u32At s (p + 4))))
+sheet-keeps s place p z entries.stays o q = refl
+sheet-keeps s place p z entries.goes o q = refl
+sheet-keeps s place p z entries.table o q = refl
+sheet-keeps s place p z entries.text o q = refl
+sheet-keeps s place p z entries.sheet o q = length-sets o (q + 4) (bytesOf 4 (place (u32At s (p + 4))))
+
+pub roomy-start : (s : List ℕ) (f : Change) (n : ℕ) (o : List ℕ) → Keeps f → Roomy s n (length o) → Editing s (Good s) f n o (record { at = 0; level = 0; kind = 0; gone = false }) 0 o
+roomy-start s f n o k h = editing-start s (Good s) f n o k (h .short) (h .table) (h .good) (h .room)
 
 pub texts-start : (s flags : List ℕ) (start base n : ℕ) (o : List ℕ) → Roomy s n (length o)
-    → Editing s (textChange s (rankIn flags start base) base (length flags * 64)) n o (record { at = 0; level = 0; kind = 0; gone = false }) 0 o
-texts-start s flags start base n o h = editing-start s _ n o (text-keeps s (rankIn flags start base) base (length flags * 64)) h
+    → Editing s (Good s) (textChange s (rankIn flags start base) base (length flags * 64)) n o (record { at = 0; level = 0; kind = 0; gone = false }) 0 o
+texts-start s flags start base n o h = roomy-start s _ n o (text-keeps s (rankIn flags start base) base (length flags * 64)) h
 
 pub sheets-start : (s : List ℕ) (n : ℕ) (o : List ℕ) → Roomy s n (length o)
-    → Editing s (sheetChange s (placeFor n (entriesOf s))) n o (record { at = 0; level = 0; kind = 0; gone = false }) 0 o
-sheets-start s n o h = editing-start s _ n o (sheet-keeps s (placeFor n (entriesOf s))) h
+    → Editing s (Good s) (sheetChange s (placeFor n (entriesOf s))) n o (record { at = 0; level = 0; kind = 0; gone = false }) 0 o
+sheets-start s n o h = roomy-start s _ n o (sheet-keeps s (placeFor n (entriesOf s))) h
+
+-- room for what an entry gets
+module _ (s : List ℕ) (f : Change) (n : ℕ) (o₀ : List ℕ) (w : Spot) (q : ℕ) (o : List ℕ) (g : Editing s (Good s) f n o₀ w q o) (r : Step) (is : itemOf s w r ≡ entryItem s (spotOf w)) (z : ℕ) (x : Fate) (v : Spot) (h : r ≡ Record z x v) where
+  place-room : q + sizeFor n z (fated x) ≤ length o
+  place-room = editing-room s (Good s) f n o₀ w q o g r is z x v h
+
+  good-here : Good s (record { at = w .at; size = z; fate = fated x })
+  good-here = editing-here s (Good s) f n o₀ w q o g r is z x v h
+
+  pub place-text : x ≡ Text → q + 14 ≤ length o
+  place-text e = let a = good-here .cell (ap fated e) in let b : q + z ≤ length o = rw e at place-room in omega arith
+
+  pub place-sheet : x ≡ Sheet → q + 8 ≤ length o
+  place-sheet e = let a = good-here .sheet (ap fated e) in let b : q + z ≤ length o = rw e at place-room in omega arith
+
+  pub place-table : x ≡ Table → q + n ≤ length o
+  place-table e = rw e at place-room
+
+pub ruleset place-laws = (edit-laws, place-text, place-sheet, place-table)
 
 -- an entry, by its fate
 module _ (s : List ℕ) (index : ℕ → ℕ) (base m p z q : ℕ) (o o′ : List ℕ) (x : Fate) where

@@ -23,9 +23,9 @@ use Rattle.new_places.specs.declared.Step.{Step}
 use Rattle.new_places.specs.declared.Step.the-variants.{Record, End}
 use Rattle.new_places.specs.Parts.{spotOf, itemOf, sizeOf, Ready, Placed}
 use Rattle.new_places.proofs.Place.{Going, going-sum, going-next}
-use Rattle.used_strings.proofs.Walking.{ahead-are}
-use Rattle.copy_changes.specs.Edited.{placeFor}
-use Rattle.copy_changes.proofs.Editing.{place-by}
+use Rattle.new_places.proofs.Walking.{ahead-are}
+use Rattle.new_fields.specs.Edited.{placeFor}
+use Rattle.new_fields.proofs.Places.{place-by}
 use Rattle.new_fields.specs.Slots.{top, Reached, Slots, Grown}
 
 -- ---- where nothing is open, neither the kind nor what went before it matters

@@ -1,2 +1,4 @@
+pub mod Edited
 pub mod Ranks
+pub mod Runs
 pub mod Slots

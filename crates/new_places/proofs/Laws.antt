@@ -1,10 +1,8 @@
 -- The laws of the entries as the code meets them. Assumes nothing.
-use Prim.Native.Nat.{ℕ, _+_, _-_, _*_, _≤_}
+use Prim.Native.Nat.{ℕ, _+_, _-_, _≤_}
 use mathlib.Core.Path.{_≡_, sym, ap, _∙_}
 use mathlib.Core.List.{List}
 use native.Mathlib.Omega.{arith}
-use lib.ListN.{length, getD, List·getD-eq-default}
-use Rattle.bytes.specs.Bytes.{numAt}
 use Rattle.substream.specs.Substream.{kindAt}
 use mathlib.Core.Bool.{Bool, false}
 use lib.Dec.{eqb}
@@ -15,14 +13,6 @@ use Rattle.record.specs.declared.Header.{Header}
 use Rattle.record.specs.declared.Header.the-variants.{Record}
 use Rattle.record.specs.Record.{headerAt}
 use Rattle.new_stream.specs.Entries.{Spot, Fate, Entry, text, stays, inLater, fateOf, parts, levelAfter, spotAfter, recordItem, onHeader, entryItem}
-
--- a byte past the end counts as 0
-pub byte-out : (s : List ℕ) (i : ℕ) → length s ≤ i → 0 ≡ getD s i 0
-byte-out s i h = sym (List·getD-eq-default s 0 h)
-
-pub kind-sum : (s : List ℕ) (at : ℕ) {a b x y : ℕ} → a ≡ getD s (at + 6) 0 → x ≡ a → b ≡ getD s (at + 7) 0 → y ≡ b → x + 256 * y ≡ kindAt s at
-unfolding numAt
-kind-sum s at h i j k = let e : at + 6 + 1 ≡ at + 7 = omega arith in rw (i, k, h, j, e) (omega arith)
 
 -- an EOF where nothing is open
 pub zero-less : (n : ℕ) → n ≡ 0 → 0 ≡ n - 1
@@ -77,4 +67,4 @@ module _ (s : List ℕ) (w : Spot) (id z e a k : ℕ) (x : Fate) where
       let fate : x ≡ fateOf w id = cell-fate i j l n h in
       pick-ne _ _ _ (w .level) 0 inside (record-made s w id z e a k x _ f g fate (after-inside s w id e 1 0x0010 false x inside (cell-level i l u) (sym j) fate d))
 
-pub ruleset spot-laws = (byte-out, kind-sum, zero-less, after-opened, after-inside, record-made, cell-made, by-header, refl′)
+pub ruleset spot-laws = (zero-less, after-opened, after-inside, record-made, cell-made, by-header, refl′)

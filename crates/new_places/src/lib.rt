@@ -1,8 +1,7 @@
 // The records of a stream in order, with what becomes of each when the unused strings are dropped, and the new place of an old offset.
 ghost use mathlib.Core.Path.{_≡_};
-ghost use Prim.Native.Nat.{_+_, _*_, _≤_, _<_};
-ghost use lib.ListN.{length, getD};
-ghost use Rattle.substream.specs.Substream.{kindAt};
+ghost use Prim.Native.Nat.{_+_, _≤_, _<_};
+ghost use lib.ListN.{length};
 ghost use Rattle.new_stream.specs.Entries.{inGlobals, inLater, fateOf, parts, levelAfter, spotAfter, recordItem, restItem, onHeader, entryItem};
 ghost use Rattle.new_places.specs.Parts.{fated, spotOf, itemOf, sizeOf, Ready, Placed, LengthOf};
 use record::Header;
@@ -107,22 +106,6 @@ fn level_after(level: usize, id: u16) -> usize
     level
 }
 
-fn byte_at(s: &[u8], i: usize) -> u16
-    ensures { λ r. ⌜ (r ≡ getD (now (s .entry)) i 0) × (r < 256) ⌝ }
-{
-    if i < s.len() {
-        return bytes::byte_as_u16(s[i]);
-    }
-    0
-}
-
-fn kind_at(s: &[u8], at: usize) -> u16
-    requires { ⌜ at < length (now s) ⌝ }
-    ensures { λ r. ⌜ r ≡ kindAt (now (s .entry)) at ⌝ }
-{
-    byte_at(s, at + 6) + 256 * byte_at(s, at + 7)
-}
-
 // What each record adds to the new stream.
 pub fn size_of(size: usize, fate: Fate, table: usize) -> usize
     ensures { λ r. ⌜ r ≡ sizeOf table size fate ⌝ }
@@ -146,7 +129,7 @@ fn spot_after(s: &[u8], w: Spot, id: u16, end: usize) -> Spot
     let gone = leaves(fate);
     let inside = level_after(level, id);
     if level == 0 {
-        let kind = kind_at(s, at);
+        let kind = bytes::u16_or_zeros(s, at + 6);
         return Spot {
             at: end,
             level: inside,

@@ -1,4 +1,4 @@
--- The cells of a worksheet in both streams: the same, but for the text indices. Assumes nothing.
+-- The cells of a worksheet in both streams: the same, but for the text indices; and each text index is one of the text entries. Assumes nothing.
 use Prim.Native.Nat.{ℕ, zero, suc, _+_, _-_, _^_, _≤_, _<_}
 use mathlib.Core.Path.{_≡_, refl, sym, ap, ap₂, _∙_, subst}
 use mathlib.Core.List.{List, [], _∷_, _++_, map}
@@ -21,6 +21,7 @@ use Rattle.cell.specs.declared.Shape.the-variants.{LABELSST}
 use Rattle.cell.specs.declared.Cell.{Cell}
 use Rattle.cell.specs.Cells.{shapeOf, sized, countOf, cellsOf}
 use Rattle.reading.specs.Cells.{placeAt, listedFrom}
+use Rattle.reading.specs.Claims.{Every}
 use Rattle.segments.specs.declared.Cursor.{Cursor}
 use Rattle.segments.specs.Segments.{Got, got, refused, listOf, continues}
 use Rattle.segments.specs.Parts.{Passes}
@@ -33,7 +34,7 @@ use Rattle.reading.proofs.Texts.{has-formula}
 use Rattle.reading.proofs.Laws.{record-cells}
 use Rattle.reads_after.specs.Parts.{Inside}
 use Rattle.reads_after.proofs.Records.{After, inside-past, inside-text}
-use Rattle.moved_records.specs.Later.{laterCursor, laterGot}
+use Rattle.moved_records.proofs.Later.{laterCursor, laterGot}
 use Rattle.moved_records.proofs.Views.{num-drop}
 use Rattle.moved_records.proofs.Texts.{text-drop}
 use Rattle.new_stream.specs.Entries.{Spot, Fate, stays, goes, table, text, sheet, fateOf, spotAfter, parts}
@@ -44,6 +45,7 @@ use Rattle.new_stream.proofs.Records.{spot, spot-is, fits, later, entries-by, g
 use Rattle.new_stream.proofs.Texts.{Followed, same-on, follow, text-moved as text-result-moved}
 use Rattle.new_reading.specs.Retexted.{retextedCell}
 use Rattle.new_reading.proofs.Views.{count-moved, cells-moved, text-moved}
+use Rattle.new_reading.proofs.Uses.{every-append, Says, label-says, plain-says}
 use Rattle.new_reading.proofs.Listing.{list-skip, list-bof, list-deep, list-end, list-back, inside-there, inside-label, inside-plain}
 
 map-append : {A B : Type 0} (f : A → B) (l r : List A) → map f (l ++ r) ≡ map f l ++ map f r
@@ -147,9 +149,25 @@ module _ (m : Given) (u u′ to : ℕ) (fresh : (i : ℕ) → m .Used i → i < 
   free-inside zero w l q b tr none = absurd (omega arith)
   free-inside (suc n) w l q b tr none = free-header w l q tr none (λ x less tr′ none′. free-inside n x l q (omega arith) tr′ none′) (headerAt s (w .at)) refl
 
-  -- ---- the cells
+  -- ---- the cells: from p, l deep in the old stream, and from q in the new one
+  pub record Reads (p l q : ℕ) : Type 0 where
+    pub same : new q l ≡ old p l
+    pub says : Every (Says (m .Used)) (listedFrom s (placeAt p l))
+
+  moves : (p l q e k e₁ : ℕ) → listedFrom s (placeAt p l) ≡ listedFrom s (placeAt e k) → listedFrom t (placeAt q l) ≡ listedFrom t (placeAt e₁ k) → Reads e k e₁ → Reads p l q
+  moves p l q e k e₁ a b r = record {
+    same = ap (map (cellReading t)) b ∙ r .same ∙ sym (ap (λ (x : List Cell). map (retextedCell (m .index) (m .byte)) (map (cellReading s) x)) a);
+    says = subst (Every (Says (m .Used))) (sym a) (r .says);
+  }
+
+  stops : (p l q : ℕ) → listedFrom s (placeAt p l) ≡ [] → listedFrom t (placeAt q l) ≡ [] → Reads p l q
+  stops p l q a b = record {
+    same = ap (map (cellReading t)) b ∙ sym (ap (λ (x : List Cell). map (retextedCell (m .index) (m .byte)) (map (cellReading s) x)) a);
+    says = subst (Every (Says (m .Used))) (sym a) tt;
+  }
+
   abbrev Again : Spot → Type 0
-  Again w = (x : Spot) (l q : ℕ) → length s - x .at < length s - w .at → Tracks x l q → new q l ≡ old (x .at) l
+  Again w = (x : Spot) (l q : ℕ) → length s - x .at < length s - w .at → Tracks x l q → Reads (x .at) l q
 
   module _ (w : Spot) (l q : ℕ) (tr : Tracks w l q) (again : Again w) (ty z e : ℕ) (h : headerAt s (w .at) ≡ Record ty z e) where
     abbrev p : ℕ
@@ -164,45 +182,50 @@ module _ (m : Given) (u u′ to : ℕ) (fresh : (i : ℕ) → m .Used i → i < 
     past : After s u to l ty e
     past = inside-past s u to l p ty z e (tr .inside) h
 
-    next : (k r : ℕ) → after .level ≡ k + 1 → Inside s u to k e → View m after r → new r k ≡ old e k
+    next : (k r : ℕ) → after .level ≡ k + 1 → Inside s u to k e → View m after r → Reads e k r
     next k r i j v =
         let x = whole s p ty z e h in
         let a = after-at s w ty e in
-        again after k r (omega arith) record { level = i; kind = after-kind s w ty e deep ∙ tr .kind; inside = subst (Inside s u to k) (sym a) j; view = v } ∙ ap (λ (n : ℕ). old n k) a
+        subst (λ (n : ℕ). Reads n k r) a (again after k r (omega arith) record { level = i; kind = after-kind s w ty e deep ∙ tr .kind; inside = subst (Inside s u to k) (sym a) j; view = v })
 
     level-same : (ty ≡ 0x0809 → ⊥) → (ty ≡ 0x000A → ⊥) → after .level ≡ l + 1
     level-same a b = after-plain s w ty e a b ∙ tr .level
 
     -- ---- it is gone
-    goes-read : fateOf w ty ≡ goes → (ty ≡ 0x003C) ⊎ (ty ≡ 0x020B) → (ty ≡ 0x0809 → ⊥) → (ty ≡ 0x000A → ⊥) → new q l ≡ old p l
+    goes-read : fateOf w ty ≡ goes → (ty ≡ 0x003C) ⊎ (ty ≡ 0x020B) → (ty ≡ 0x0809 → ⊥) → (ty ≡ 0x000A → ⊥) → Reads p l q
     goes-read i c a b =
-        next l q (level-same a b) (past .else a b) (gone-next m w q ty z e deep (tr .view) h i)
-        ∙ sym (ap (λ (x : List Cell). map (retextedCell (m .index) (m .byte)) (map (cellReading s) x)) (list-skip s p l ty z e h a b (λ _. gone-none s ty p z c)))
+        moves p l q e l q (list-skip s p l ty z e h a b (λ _. gone-none s ty p z c)) refl (next l q (level-same a b) (past .else a b) (gone-next m w q ty z e deep (tr .view) h i))
 
-    goes-by : fateOf w ty ≡ goes → (ty ≡ 0x003C) ⊎ (ty ≡ 0x020B) → new q l ≡ old p l
+    goes-by : fateOf w ty ≡ goes → (ty ≡ 0x003C) ⊎ (ty ≡ 0x020B) → Reads p l q
     goes-by i (inl c) = goes-read i (inl c) (λ x. omega arith) (λ x. omega arith)
     goes-by i (inr c) = goes-read i (inr c) (λ x. omega arith) (λ x. omega arith)
 
     -- ---- its cells, then the others
     cells-then : (e₁ : ℕ) → headerAt t q ≡ Record ty z e₁ → l ≡ 0 → 0 < countOf (shapeOf ty) s p z → 0 < countOf (shapeOf ty) t q z
-        → map (cellReading t) (cellsOf t (shapeOf ty) q z) ≡ map (retextedCell (m .index) (m .byte)) (map (cellReading s) (cellsOf s (shapeOf ty) p z)) → new e₁ 0 ≡ old e 0 → new q l ≡ old p l
-    cells-then e₁ h₁ i some some₁ cells rest =
-        rw i
-        (ap (map (cellReading t)) (record-cells t q ty z e₁ h₁ some₁) ∙ map-append (cellReading t) (cellsOf t (shapeOf ty) q z) (listedFrom t (placeAt e₁ 0))
-        ∙ ap₂ (λ (a b : List CellReading). a ++ b) cells rest
-        ∙ sym (ap (λ (x : List Cell). map (retextedCell (m .index) (m .byte)) (map (cellReading s) x)) (record-cells s p ty z e h some)
-        ∙ ap (map (retextedCell (m .index) (m .byte))) (map-append (cellReading s) (cellsOf s (shapeOf ty) p z) (listedFrom s (placeAt e 0)))
-        ∙ map-append (retextedCell (m .index) (m .byte)) (map (cellReading s) (cellsOf s (shapeOf ty) p z)) (map (cellReading s) (listedFrom s (placeAt e 0)))))
+        → map (cellReading t) (cellsOf t (shapeOf ty) q z) ≡ map (retextedCell (m .index) (m .byte)) (map (cellReading s) (cellsOf s (shapeOf ty) p z)) → Every (Says (m .Used)) (cellsOf s (shapeOf ty) p z) → Reads e 0 e₁ → Reads p l q
+    cells-then e₁ h₁ i some some₁ cells says rest = record {
+      same =
+          rw i
+          (ap (map (cellReading t)) (record-cells t q ty z e₁ h₁ some₁) ∙ map-append (cellReading t) (cellsOf t (shapeOf ty) q z) (listedFrom t (placeAt e₁ 0))
+          ∙ ap₂ (λ (a b : List CellReading). a ++ b) cells (rest .same)
+          ∙ sym (ap (λ (x : List Cell). map (retextedCell (m .index) (m .byte)) (map (cellReading s) x)) (record-cells s p ty z e h some)
+          ∙ ap (map (retextedCell (m .index) (m .byte))) (map-append (cellReading s) (cellsOf s (shapeOf ty) p z) (listedFrom s (placeAt e 0)))
+          ∙ map-append (retextedCell (m .index) (m .byte)) (map (cellReading s) (cellsOf s (shapeOf ty) p z)) (map (cellReading s) (listedFrom s (placeAt e 0)))));
+      says =
+          subst (λ (n : ℕ). Every (Says (m .Used)) (listedFrom s (placeAt p n))) (sym i)
+          (subst (Every (Says (m .Used))) (sym (record-cells s p ty z e h some)) (every-append (Says (m .Used)) (cellsOf s (shapeOf ty) p z) (listedFrom s (placeAt e 0)) says (rest .says)));
+    }
 
     -- ---- it gets a new index
-    text-read : fateOf w ty ≡ text → l ≡ 0 → ty ≡ 0x00FD → new q l ≡ old p l
+    text-read : fateOf w ty ≡ text → l ≡ 0 → ty ≡ 0x00FD → Reads p l q
     text-read i zero-level c =
         let right = inside-label s u to l p z e (tr .inside) zero-level (h ∙ ap (λ (n : ℕ). Record n z e) c) in
         let ten : z ≡ 10 = right .0 in
         let fit = fits m w q ty z e deep (tr .view) h in
         let lat = later m w q ty z e deep (tr .view) h in
         let ent = entries-by m w q ty z e deep (tr .view) h text i in
-        let below : m .index (u32At s (p + 10)) < u′ = fresh (u32At s (p + 10)) (text-used m w after q (4 + z) (tr .view) fit lat ent) (right .1) in
+        let used = text-used m w after q (4 + z) (tr .view) fit lat ent in
+        let below : m .index (u32At s (p + 10)) < u′ = fresh (u32At s (p + 10)) used (right .1) in
         let number : u32At t (q + 10) ≡ m .index (u32At s (p + 10)) = sym (num-drop t q 4 10) ∙ text-number m w after q (4 + z) (tr .view) fit lat ent (omega arith) (omega arith) in
         let shape = label-shape ty c in
         let one : countOf (shapeOf ty) s p z ≡ 1 = ap₂ (λ (x : Shape) (n : ℕ). countOf x s p n) shape ten ∙ label-one s p in
@@ -211,6 +234,7 @@ module _ (m : Given) (u u′ to : ℕ) (fresh : (i : ℕ) → m .Used i → i < 
         (ap₂ (λ (x : Shape) (n : ℕ). map (cellReading t) (cellsOf t x q n)) shape ten
         ∙ text-moved (m .index) (m .byte) s t p q (λ k a b. text-same m w after q (4 + z) (tr .view) fit lat ent k (omega arith) (inl b)) number (view-byte m w after q (4 + z) text (tr .view) ent fit lat 10 (omega arith))
         ∙ sym (ap₂ (λ (x : Shape) (n : ℕ). map (retextedCell (m .index) (m .byte)) (map (cellReading s) (cellsOf s x p n))) shape ten))
+        (subst (Every (Says (m .Used))) (sym (ap₂ (λ (x : Shape) (n : ℕ). cellsOf s x p n) shape ten)) (label-says (m .Used) s p used))
         (next 0 (q + (4 + z)) (level-same (λ x. omega arith) (λ x. omega arith) ∙ ap (λ (n : ℕ). n + 1) zero-level) (subst (λ (n : ℕ). Inside s u to n e) zero-level (past .else (λ x. omega arith) (λ x. omega arith))) (text-next m w q ty z e deep (tr .view) h i))
 
     -- ---- it stays
@@ -287,13 +311,11 @@ module _ (m : Given) (u u′ to : ℕ) (fresh : (i : ℕ) → m .Used i → i < 
         shown = shown-by (textOf s p e) refl (inside-text s u p ty z e 0 some has to (subst (λ (n : ℕ). Inside s u to n p) zero-level (tr .inside)) h)
 
       -- passed over in both
-      skip-read : (ty ≡ 0x0809 → ⊥) → (ty ≡ 0x000A → ⊥) → (l ≡ 0 → countOf (shapeOf ty) s p z ≡ 0) → new q l ≡ old p l
+      skip-read : (ty ≡ 0x0809 → ⊥) → (ty ≡ 0x000A → ⊥) → (l ≡ 0 → countOf (shapeOf ty) s p z ≡ 0) → Reads p l q
       skip-read a b none =
-          ap (map (cellReading t)) (list-skip t q l ty z e₁ header₁ a b (λ j. same-count ∙ none j))
-          ∙ next l e₁ (level-same a b) (past .else a b) view₁
-          ∙ sym (ap (λ (x : List Cell). map (retextedCell (m .index) (m .byte)) (map (cellReading s) x)) (list-skip s p l ty z e h a b none))
+          moves p l q e l e₁ (list-skip s p l ty z e h a b none) (list-skip t q l ty z e₁ header₁ a b (λ j. same-count ∙ none j)) (next l e₁ (level-same a b) (past .else a b) view₁)
 
-      plain-read : (ty ≡ 0x0809 → ⊥) → (ty ≡ 0x000A → ⊥) → (b : Bool) → eqb l 0 ≡ b → (c : Bool) → ltb 0 (countOf (shapeOf ty) s p z) ≡ c → new q l ≡ old p l
+      plain-read : (ty ≡ 0x0809 → ⊥) → (ty ≡ 0x000A → ⊥) → (b : Bool) → eqb l 0 ≡ b → (c : Bool) → ltb 0 (countOf (shapeOf ty) s p z) ≡ c → Reads p l q
       plain-read a b true j true k =
           let zero-level = eqb-true l 0 j in
           let some = ltb-true 0 (countOf (shapeOf ty) s p z) k in
@@ -302,61 +324,55 @@ module _ (m : Given) (u u′ to : ℕ) (fresh : (i : ℕ) → m .Used i → i < 
           cells-then e₁ header₁ zero-level some (omega arith)
           (cells-moved s t p q z low (view₁ .within) same₁ ty (whole s p ty z e h .size) (shown zero-level (omega arith)) (m .index) (m .byte) no
           (λ n x. view-byte m w after q (4 + z) stays (tr .view) (entries-by m w q ty z e deep (tr .view) h stays i) (fits m w q ty z e deep (tr .view) h) (later m w q ty z e deep (tr .view) h) n x))
+          (plain-says (m .Used) s p ty z no)
           (next 0 e₁ (level-same a b ∙ ap (λ (n : ℕ). n + 1) zero-level) (subst (λ (n : ℕ). Inside s u to n e) zero-level (past .else a b)) view₁)
       plain-read a b true j false k = skip-read a b (λ _. let n = ltb-false 0 (countOf (shapeOf ty) s p z) k in omega arith)
       plain-read a b false j c k = skip-read a b (λ x. absurd (eqb-false l 0 j x))
 
-      bof-read : ty ≡ 0x0809 → (b : Bool) → ltb l 3 ≡ b → new q l ≡ old p l
+      bof-read : ty ≡ 0x0809 → (b : Bool) → ltb l 3 ≡ b → Reads p l q
       bof-read c true j =
-          ap (map (cellReading t)) (list-bof t q l ty z e₁ header₁ c (ltb-true l 3 j))
-          ∙ next (l + 1) e₁ (after-bof s w ty e c ∙ ap (λ (n : ℕ). n + 1) (tr .level)) (past .bof c) view₁
-          ∙ sym (ap (λ (x : List Cell). map (retextedCell (m .index) (m .byte)) (map (cellReading s) x)) (list-bof s p l ty z e h c (ltb-true l 3 j)))
-      bof-read c false j =
-          ap (map (cellReading t)) (list-deep t q l ty z e₁ header₁ c (ltb-false l 3 j))
-          ∙ sym (ap (λ (x : List Cell). map (retextedCell (m .index) (m .byte)) (map (cellReading s) x)) (list-deep s p l ty z e h c (ltb-false l 3 j)))
+          moves p l q e (l + 1) e₁ (list-bof s p l ty z e h c (ltb-true l 3 j)) (list-bof t q l ty z e₁ header₁ c (ltb-true l 3 j))
+          (next (l + 1) e₁ (after-bof s w ty e c ∙ ap (λ (n : ℕ). n + 1) (tr .level)) (past .bof c) view₁)
+      bof-read c false j = stops p l q (list-deep s p l ty z e h c (ltb-false l 3 j)) (list-deep t q l ty z e₁ header₁ c (ltb-false l 3 j))
 
-      eof-read : ty ≡ 0x000A → (b : Bool) → eqb l 0 ≡ b → new q l ≡ old p l
-      eof-read c true j =
-          ap (map (cellReading t)) (list-end t q l ty z e₁ header₁ c (eqb-true l 0 j))
-          ∙ sym (ap (λ (x : List Cell). map (retextedCell (m .index) (m .byte)) (map (cellReading s) x)) (list-end s p l ty z e h c (eqb-true l 0 j)))
+      eof-read : ty ≡ 0x000A → (b : Bool) → eqb l 0 ≡ b → Reads p l q
+      eof-read c true j = stops p l q (list-end s p l ty z e h c (eqb-true l 0 j)) (list-end t q l ty z e₁ header₁ c (eqb-true l 0 j))
       eof-read c false j =
           let some = eqb-false l 0 j in
-          ap (map (cellReading t)) (list-back t q l ty z e₁ header₁ c some)
-          ∙ next (l - 1) e₁ (after-eof s w ty e c ∙ back (w .level) l (tr .level) some) (past .eof c some) view₁
-          ∙ sym (ap (λ (x : List Cell). map (retextedCell (m .index) (m .byte)) (map (cellReading s) x)) (list-back s p l ty z e h c some))
+          moves p l q e (l - 1) e₁ (list-back s p l ty z e h c some) (list-back t q l ty z e₁ header₁ c some) (next (l - 1) e₁ (after-eof s w ty e c ∙ back (w .level) l (tr .level) some) (past .eof c some) view₁)
         where
           back : (a b : ℕ) → a ≡ b + 1 → (b ≡ 0 → ⊥) → a - 1 ≡ b - 1 + 1
           back a b i n = omega arith
 
-      stays-read : new q l ≡ old p l
+      stays-read : Reads p l q
       stays-read = by (eqb ty 0x0809) refl
         where
-          rest : (ty ≡ 0x0809 → ⊥) → (b : Bool) → eqb ty 0x000A ≡ b → new q l ≡ old p l
+          rest : (ty ≡ 0x0809 → ⊥) → (b : Bool) → eqb ty 0x000A ≡ b → Reads p l q
           rest a true j = eof-read (eqb-true ty 0x000A j) (eqb l 0) refl
           rest a false j = plain-read a (eqb-false ty 0x000A j) (eqb l 0) refl (ltb 0 (countOf (shapeOf ty) s p z)) refl
 
-          by : (b : Bool) → eqb ty 0x0809 ≡ b → new q l ≡ old p l
+          by : (b : Bool) → eqb ty 0x0809 ≡ b → Reads p l q
           by true j = bof-read (eqb-true ty 0x0809 j) (ltb l 3) refl
           by false j = rest (eqb-false ty 0x0809 j) (eqb ty 0x000A) refl
 
-    record-by : (x : Fate) → fateOf w ty ≡ x → Turns w (kindOf l) ty x → new q l ≡ old p l
+    record-by : (x : Fate) → fateOf w ty ≡ x → Turns w (kindOf l) ty x → Reads p l q
     record-by stays i f = stays-read i (f .1)
     record-by goes i f = goes-by i f
     record-by text i f = text-read i (kind-sheet l (f .0)) (f .1)
     record-by table i f = absurd f
     record-by sheet i f = absurd f
 
-    record-read : new q l ≡ old p l
+    record-read : Reads p l q
     record-read = record-by (fateOf w ty) refl (turns w (kindOf l) ty (λ j. tr .kind ∙ kind-top l (sym (tr .level) ∙ j)) (λ j. kind-chart l (λ x. j (tr .level ∙ x))) (kind-later l))
 
-  header-read : (w : Spot) (l q : ℕ) → Tracks w l q → Again w → (x : Header) → headerAt s (w .at) ≡ x → new q l ≡ old (w .at) l
+  header-read : (w : Spot) (l q : ℕ) → Tracks w l q → Again w → (x : Header) → headerAt s (w .at) ≡ x → Reads (w .at) l q
   header-read w l q tr again (Record ty z e) h = record-read w l q tr again ty z e h
   header-read w l q tr again Cut h = absurd (inside-there s u to l (w .at) (tr .inside) .0 h)
   header-read w l q tr again End h = absurd (inside-there s u to l (w .at) (tr .inside) .1 h)
 
-  walk-read : (n : ℕ) (w : Spot) (l q : ℕ) → length s - w .at < n → Tracks w l q → new q l ≡ old (w .at) l
+  walk-read : (n : ℕ) (w : Spot) (l q : ℕ) → length s - w .at < n → Tracks w l q → Reads (w .at) l q
   walk-read zero w l q b tr = absurd (omega arith)
   walk-read (suc n) w l q b tr = header-read w l q tr (λ x k r less tr′. walk-read n x k r (omega arith) tr′) (headerAt s (w .at)) refl
 
-  pub cells-read : (w : Spot) (l q : ℕ) → Tracks w l q → new q l ≡ old (w .at) l
+  pub cells-read : (w : Spot) (l q : ℕ) → Tracks w l q → Reads (w .at) l q
   cells-read w l q tr = walk-read (suc (length s - w .at)) w l q (omega arith) tr

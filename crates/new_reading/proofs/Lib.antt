@@ -1,6 +1,6 @@
 pub mod Views
+pub mod Uses
 pub mod Listing
 pub mod Cells
-pub mod Uses
 pub mod Reading
 pub mod Texts

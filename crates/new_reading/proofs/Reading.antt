@@ -39,8 +39,7 @@ use Rattle.new_stream.proofs.Fates.{after-at, after-bof, after-opens}
 use Rattle.new_stream.proofs.Records.{spot, openedAt, bof-next}
 use Rattle.new_stream.proofs.Check.{compacted, made}
 use Rattle.new_reading.specs.Retexted.{retextedCell, retextedSheet, indexOf, byteOf, SheetsRetexted}
-use Rattle.new_reading.proofs.Cells.{cells-read}
-use Rattle.new_reading.proofs.Uses.{cells-used}
+use Rattle.new_reading.proofs.Cells.{Reads, cells-read}
 use Rattle.value.specs.declared.CellValue.the-variants.{Text}
 
 -- ---- the row count is read off the cells
@@ -132,31 +131,14 @@ module _ (s T : List ℕ) (u : ℕ) (g : Globals) (few : u ≤ 256 ^ 4) (ok : ch
     opened-at : openedAt m w .at ≡ x .position + 20
     opened-at = after-at s w 0x0809 (x .position + 20)
 
-    cells-of : x .kind ≡ 1 → map (cellReading t) (listedFrom t (placeAt (r + 20) 0)) ≡ map (retextedCell (indexOf s T) (byteOf s T)) (map (cellReading s) (listedFrom s (placeAt (x .position + 20) 0)))
+    -- the cells of a worksheet, read in both streams
+    reads-of : x .kind ≡ 1 → Reads m (g .unique) u′ (stand .end) (facts .fresh) (facts .small) (x .position + 20) 0 (r + 20)
     unfolding placeAt
-    cells-of k =
+    reads-of k =
         let o = opening s (x .position) (stand .whole .kind) (stand .whole .opens) in
         let kind : stand .whole .kind ≡ 0x0010 = worksheet (stand .whole .kind) (stand .number ∙ k) in
-        cells-read m (g .unique) u′ (stand .end) (facts .fresh) (facts .small) (openedAt m w) 0 (r + 20)
-        record {
-          level = after-bof s w 0x0809 (x .position + 20) refl;
-          kind = after-opens s w 0x0809 (x .position + 20) refl ∙ o .kind ∙ kind;
-          inside = subst (Inside s (g .unique) (stand .end) 0) (sym opened-at) (sheet-start s g x stand k .1);
-          view = bof-next m w r (viewed .view) (o .header);
-        }
-        ∙ ap (λ (n : ℕ). map (retextedCell (indexOf s T) (byteOf s T)) (map (cellReading s) (listedFrom s (placeAt n 0)))) opened-at
-
-    -- each listed text cell is a text entry
-    abbrev Says : Cell → Type 0
-    Says c = (i : ℕ) → c .value ≡ Text i → uses (textsIn s (entriesOf s)) i ≡ true
-
-    says-of : x .kind ≡ 1 → Every Says (listedFrom s (placeAt (x .position + 20) 0))
-    unfolding placeAt
-    says-of k =
-        let o = opening s (x .position) (stand .whole .kind) (stand .whole .opens) in
-        let kind : stand .whole .kind ≡ 0x0010 = worksheet (stand .whole .kind) (stand .number ∙ k) in
-        subst (λ (n : ℕ). Every Says (listedFrom s (placeAt n 0))) opened-at
-        (cells-used m (g .unique) u′ (stand .end) (facts .fresh) (facts .small) (openedAt m w) 0 (r + 20)
+        subst (λ (n : ℕ). Reads m (g .unique) u′ (stand .end) (facts .fresh) (facts .small) n 0 (r + 20)) opened-at
+        (cells-read m (g .unique) u′ (stand .end) (facts .fresh) (facts .small) (openedAt m w) 0 (r + 20)
         record {
           level = after-bof s w 0x0809 (x .position + 20) refl;
           kind = after-opens s w 0x0809 (x .position + 20) refl ∙ o .kind ∙ kind;
@@ -164,12 +146,16 @@ module _ (s T : List ℕ) (u : ℕ) (g : Globals) (few : u ≤ 256 ^ 4) (ok : ch
           view = bof-next m w r (viewed .view) (o .header);
         })
 
+    -- each listed text cell is a text entry
+    abbrev Says : Cell → Type 0
+    Says c = (i : ℕ) → c .value ≡ Text i → uses (textsIn s (entriesOf s)) i ≡ true
+
     pub listed-says : Every Says (listedOf s x)
     unfolding startBy pick
     listed-says = by (eqb (x .kind) 1) refl
       where
         by : (b : Bool) → eqb (x .kind) 1 ≡ b → Every Says (listedFrom s (pick b (placeAt (x .position + 20) 0) (placeAt (length s) 0)))
-        by true j = says-of (eqb-true (x .kind) 1 j)
+        by true j = reads-of (eqb-true (x .kind) 1 j) .says
         by false j = subst (Every Says) (sym (listed-none s (length s) (omega arith))) tt
 
     listed-moved : map (cellReading t) (listedOf t (sheetMoved s T x)) ≡ map (retextedCell (indexOf s T) (byteOf s T)) (map (cellReading s) (listedOf s x))
@@ -177,7 +163,7 @@ module _ (s T : List ℕ) (u : ℕ) (g : Globals) (few : u ≤ 256 ^ 4) (ok : ch
     listed-moved = by (eqb (x .kind) 1) refl
       where
         by : (b : Bool) → eqb (x .kind) 1 ≡ b → map (cellReading t) (listedFrom t (pick b (placeAt (r + 20) 0) (placeAt (length t) 0))) ≡ map (retextedCell (indexOf s T) (byteOf s T)) (map (cellReading s) (listedFrom s (pick b (placeAt (x .position + 20) 0) (placeAt (length s) 0))))
-        by true j = cells-of (eqb-true (x .kind) 1 j)
+        by true j = reads-of (eqb-true (x .kind) 1 j) .same
         by false j = ap (map (cellReading t)) (listed-none t (length t) (omega arith)) ∙ sym (ap (λ (l : List Cell). map (retextedCell (indexOf s T) (byteOf s T)) (map (cellReading s) l)) (listed-none s (length s) (omega arith)))
 
     sheet-moved : sheetReading t (sheetMoved s T x) ≡ retextedSheet (indexOf s T) (byteOf s T) (sheetReading s x)

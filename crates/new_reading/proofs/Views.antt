@@ -38,7 +38,7 @@ use Rattle.reading.proofs.Texts.{field-of, says-is, has-formula}
 use Rattle.reading.specs.Claims.{Every}
 use Rattle.reads_after.proofs.Lists.{map-every, map-map}
 use Rattle.reads_after.proofs.Trailing.{trailing-local}
-use Rattle.moved_records.specs.Later.{laterHeader, laterGot}
+use Rattle.moved_records.proofs.Later.{laterHeader, laterGot}
 use Rattle.moved_records.proofs.Texts.{header-drop, text-drop, has-drop}
 use Rattle.moved_records.proofs.Views.{num-drop, num-at, row-drop, first-drop, length-drop, field-drop, count-drop}
 use Rattle.moved_records.proofs.Moved.{num-moved}

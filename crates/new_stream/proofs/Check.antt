@@ -34,7 +34,7 @@ use Rattle.moved_records.proofs.Moved.{num-moved, header-moved}
 use Rattle.new_stream.specs.Entries.{Entry, start, entriesOf}
 use Rattle.new_stream.specs.Compact.{placeIn, textsIn, uses, indexIn, compactWith}
 use Rattle.new_stream.specs.Parts.{Given, View, BofViewed, givenOf, Made}
-use Rattle.new_stream.specs.Echo.{Echoes}
+use Rattle.new_stream.proofs.Echoed.{Echoes}
 use Rattle.new_stream.specs.Claims.{Standing, usedOf, TableOf, placeOf, sheetMoved, Compacted, CompactPasses}
 use Rattle.new_stream.proofs.Fates.{after-at, after-bof, after-opens}
 use Rattle.new_stream.proofs.Records.{openedAt, bof-next, bof-same, bof-header}

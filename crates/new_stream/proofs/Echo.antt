@@ -11,7 +11,7 @@ use lib.Dec.{eqb}
 use borrow.Author.Tests.{eqb-true, eqb-false}
 use Rattle.steps.specs.Choice.{pick}
 use Rattle.steps.proofs.Choice.{pick-same}
-use Rattle.bytes.specs.Bytes.{u32At}
+use Rattle.bytes.specs.Bytes.{u32At, bytesAt}
 use Rattle.record.specs.declared.Header.the-variants.{Record}
 use Rattle.record.specs.Record.{headerAt}
 use Rattle.record.proofs.Laws.{whole}
@@ -19,9 +19,9 @@ use Rattle.substream.specs.Substream.{kindAt}
 use Rattle.record_chain.specs.Chain.{here, on}
 use Rattle.moved_records.proofs.Moved.{num-moved}
 use Rattle.new_stream.specs.Entries.{Spot, Fate, stays, goes, table, text, sheet, Entry, fateOf, parts, levelAfter, spotAfter, entriesFrom}
-use Rattle.new_stream.specs.Compact.{bytesAt, newBytes}
+use Rattle.new_stream.specs.Compact.{newBytes}
 use Rattle.new_stream.specs.Parts.{Given, View}
-use Rattle.new_stream.specs.Echo.{Echoes, gone, part, kept, label, bound, tabled, Matches, Echo}
+use Rattle.new_stream.proofs.Echoed.{Echoes, gone, part, kept, label, bound, tabled, Matches, Echo}
 use Rattle.new_stream.specs.Claims.{Row, Standing, TableAt}
 use Rattle.new_stream.proofs.Entries.{entries-record, entries-bof}
 use Rattle.new_stream.proofs.Written.{new-size, view-split}

@@ -4,10 +4,10 @@ use mathlib.Core.Path.{_≡_, refl}
 use mathlib.Core.List.{List, [], _∷_}
 use Rattle.steps.specs.Choice.{pick}
 use Rattle.steps.specs.Items.{collectF, collect}
-use Rattle.bytes.specs.Bytes.{numAt, bytesOf}
+use Rattle.bytes.specs.Bytes.{numAt, bytesAt, bytesOf}
 use Rattle.record.specs.Record.{headerAt}
 use Rattle.new_stream.specs.Entries.{inGlobals, inLater, fateOf, levelAfter, spotAfter, recordItem, restItem, entryItem, entriesFrom}
-use Rattle.new_stream.specs.Compact.{bytesAt, written, placeIn, textsIn, uses, usedBelow, indexIn, compactWith}
+use Rattle.new_stream.specs.Compact.{written, placeIn, textsIn, uses, usedBelow, indexIn, compactWith}
 
 abbrev old : List ℕ
 old =

@@ -33,7 +33,7 @@ use Rattle.reading.specs.Claims.{Every}
 use Rattle.record_chain.specs.Chain.{here, on}
 use Rattle.new_stream.specs.Entries.{Spot, Fate, stays, goes, table, text, sheet, fateOf, spotAfter, parts, entriesFrom}
 use Rattle.new_stream.specs.Parts.{Given, View, movedSheet, BoundMoved}
-use Rattle.new_stream.specs.Echo.{Echoes, Echo}
+use Rattle.new_stream.proofs.Echoed.{Echoes, Echo}
 use Rattle.new_stream.specs.Claims.{Row, Standing, TableAt, IsTable}
 use Rattle.new_stream.proofs.Written.{view-place}
 use Rattle.new_stream.proofs.Fates.{after-at, after-gone, after-kind, after-plain, after-eof}

@@ -1,3 +1,4 @@
+pub mod Echoed
 pub mod Entries
 pub mod Written
 pub mod Fates

@@ -36,13 +36,13 @@ use Rattle.substream.specs.declared.Ended.{Ended}
 use Rattle.substream.specs.declared.Ended.the-variants.{At, Refused}
 use Rattle.substream.specs.Substream.{past, pastParent, versionAt, kindAt, innerBof, onJudged, recordIn, onHeader, stepOf, back, turn, recordsFrom, substreamIn}
 use Rattle.substream.proofs.Laws.{Inner, Onward, go, left, falls, from-more, from-stop, onward}
-use Rattle.moved_records.specs.Later.{laterHere, laterStep}
+use Rattle.moved_records.proofs.Later.{laterHere, laterStep}
 use Rattle.moved_records.proofs.Views.{num-drop, record-drop}
 use Rattle.moved_records.proofs.Texts.{has-drop}
 use Rattle.moved_records.proofs.Moved.{num-moved, record-moved, record-blind, label-moved, label-index}
 use Rattle.new_stream.specs.Entries.{Spot, Fate, stays, goes, table, text, sheet, fateOf, spotAfter, parts}
 use Rattle.new_stream.specs.Parts.{Given, View}
-use Rattle.new_stream.specs.Echo.{Echo}
+use Rattle.new_stream.proofs.Echoed.{Echo}
 use Rattle.new_stream.proofs.Written.{text-same, text-number, text-used}
 use Rattle.new_stream.proofs.Records.{spot, spot-is, fits, later, entries-by, gone-next, kept-next, kept-same, kept-header, kept-free, continues-not, text-next, text-header, openedAt, bof-next, bof-same, bof-header}
 use Rattle.new_stream.proofs.Echo.{echo-gone, echo-kept, echo-text, echo-bof}

@@ -17,11 +17,11 @@ use Rattle.segments.specs.Segments.{got, continues}
 use Rattle.text_result.specs.TextResult.{textOf}
 use Rattle.text_result.proofs.Local.{text-near}
 use Rattle.record_chain.specs.Chain.{Chain, here, on, Plain}
-use Rattle.moved_records.specs.Later.{laterCursor, laterGot}
+use Rattle.moved_records.proofs.Later.{laterCursor, laterGot}
 use Rattle.moved_records.proofs.Texts.{continues-drop, text-drop}
 use Rattle.new_stream.specs.Entries.{Spot, stays, fateOf, parts, spotAfter}
 use Rattle.new_stream.specs.Parts.{Given, View}
-use Rattle.new_stream.specs.Echo.{Echo}
+use Rattle.new_stream.proofs.Echoed.{Echo}
 use Rattle.new_stream.proofs.Fates.{after-at, after-gone, after-kind, after-plain, plain-stays}
 use Rattle.new_stream.proofs.Records.{spot, spot-is, kept-next, kept-same}
 use Rattle.new_stream.proofs.Echo.{echo-kept}

@@ -13,7 +13,7 @@ use Rattle.steps.proofs.Choice.{never, pick-by, pick-eq, pick-ne, pick-nle, pic
 use Rattle.steps.specs.Walk.{more, stop}
 use Rattle.steps.proofs.Walk.{run-more, run-stop}
 use Rattle.steps.specs.Items.{Item, ends, onto}
-use Rattle.bytes.specs.Bytes.{byteAt, numAt}
+use Rattle.bytes.specs.Bytes.{byteAt, numAt, bytesAt}
 use Rattle.record.specs.declared.Header.{Header}
 use Rattle.record.specs.declared.Header.the-variants.{Record, Cut, End}
 use Rattle.record.specs.Record.{headerAt}
@@ -36,8 +36,8 @@ use Rattle.passes_after.proofs.Walks.{end-is, done-zeros}
 use Rattle.passes_after.proofs.Zeros.{zeros-from}
 use Rattle.moved_records.proofs.Moved.{num-moved}
 use Rattle.new_stream.specs.Entries.{Spot, stays, Entry, spotAfter, restItem, onHeader, entryItem, entriesFrom}
-use Rattle.new_stream.specs.Compact.{bytesAt, written}
-use Rattle.new_stream.specs.Echo.{Echoes, none, rest, Echo}
+use Rattle.new_stream.specs.Compact.{written}
+use Rattle.new_stream.proofs.Echoed.{Echoes, none, rest, Echo}
 use Rattle.new_stream.specs.Parts.{Given, View, movedBof, BofsApart, BofViewed}
 use Rattle.new_stream.proofs.Entries.{entries-step}
 use Rattle.new_stream.proofs.Written.{view-place}

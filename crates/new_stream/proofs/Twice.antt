@@ -12,15 +12,15 @@ use borrow.Author.Tests.{eqb-true, eqb-false, eq-eqb}
 use Rattle.steps.specs.Choice.{pick}
 use Rattle.steps.proofs.Choice.{pick-by, pick-lt, pick-nlt}
 use Rattle.steps.proofs.Bools.{or-cases, or-left, or-right}
-use Rattle.bytes.specs.Bytes.{u32At, bytesOf}
+use Rattle.bytes.specs.Bytes.{u32At, bytesAt, bytesOf}
 use Rattle.bytes.proofs.Laws.{length-bytes}
 use Rattle.new_stream.specs.Entries.{Fate, stays, goes, table, text, sheet, Entry, entriesOf}
-use Rattle.new_stream.specs.Compact.{bytesAt, written, newSize, placeIn, textsIn, uses, usedBelow, indexIn, compactWith}
+use Rattle.new_stream.specs.Compact.{written, newSize, placeIn, textsIn, uses, usedBelow, indexIn, compactWith}
 use Rattle.globals.specs.declared.Globals.{Globals}
 use Rattle.workbook.specs.declared.Checked.the-variants.{Right}
 use Rattle.workbook.specs.Check.{checkedOf}
 use Rattle.new_stream.specs.Parts.{Given, givenOf}
-use Rattle.new_stream.specs.Echo.{Echoes, none, rest, gone, part, kept, label, bound, tabled}
+use Rattle.new_stream.proofs.Echoed.{Echoes, none, rest, gone, part, kept, label, bound, tabled}
 use Rattle.new_stream.specs.Claims.{usedOf, TableOf, CompactTwice, CountsAgain}
 use Rattle.new_stream.proofs.Check.{echoed}
 use Rattle.new_stream.proofs.Places.{index-none, index-some}

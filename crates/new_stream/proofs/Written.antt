@@ -11,10 +11,10 @@ use lib.Dec.{eqb}
 use borrow.Author.Tests.{eq-eqb}
 use Rattle.steps.proofs.Choice.{pick-lt, pick-nlt}
 use Rattle.steps.proofs.Bools.{or-left, or-right}
-use Rattle.bytes.specs.Bytes.{numAt, u32At, bytesOf}
+use Rattle.bytes.specs.Bytes.{numAt, u32At, bytesAt, bytesOf}
 use Rattle.bytes.proofs.Laws.{Same, num-same, stored-other, num-stored}
 use Rattle.new_stream.specs.Entries.{Spot, Fate, stays, goes, table, text, sheet, Entry, entriesFrom}
-use Rattle.new_stream.specs.Compact.{bytesAt, newBytes, written, newSize, placeIn, byteIn, onText, textsIn, uses}
+use Rattle.new_stream.specs.Compact.{newBytes, written, newSize, placeIn, byteIn, onText, textsIn, uses}
 use Rattle.new_stream.specs.Parts.{Given, View, Ahead}
 use Rattle.new_stream.proofs.Entries.{Begins, begins}
 

@@ -2,17 +2,14 @@
 use Prim.Native.Nat.{ℕ, zero, suc, _+_, _-_}
 use mathlib.Core.List.{List, [], _∷_, _++_}
 use mathlib.Core.Bool.{Bool, false, _||_}
-use lib.ListN.{length, take, drop}
+use lib.ListN.{length}
 use lib.Seq.{sets}
 use lib.Dec.{ltb, eqb}
 use Rattle.steps.specs.Choice.{pick}
-use Rattle.bytes.specs.Bytes.{u32At, bytesOf}
+use Rattle.bytes.specs.Bytes.{u32At, bytesAt, bytesOf}
 use Rattle.new_stream.specs.Entries.{Fate, stays, goes, table, text, sheet, Entry, entriesOf}
 
 -- ---- what is written of each record; `index` tells the new string index, `place` the new place of a BOF
-unfoldable pub bytesAt : List ℕ → ℕ → ℕ → List ℕ
-bytesAt s p n = take n (drop p s)
-
 abbrev pub newBytes : List ℕ → List ℕ → (ℕ → ℕ) → (ℕ → ℕ) → ℕ → ℕ → Fate → List ℕ
 newBytes s T index place p n stays = bytesAt s p n
 newBytes s T index place p n goes = []

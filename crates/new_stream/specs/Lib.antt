@@ -1,5 +1,4 @@
 pub mod Entries
 pub mod Compact
 pub mod Parts
-pub mod Echo
 pub mod Claims

@@ -1,25 +1,20 @@
 -- The laws of a fetch over the pair. Assumes nothing.
-use Prim.Native.Nat.{ℕ, zero, suc, _+_, _≤_, _<_}
-use mathlib.Core.Path.{_≡_, refl, sym, ap, _∙_, subst⁻¹}
-use mathlib.Core.List.{List, [], _∷_, map}
+use Prim.Native.Nat.{ℕ, zero, suc}
+use mathlib.Core.Path.{_≡_, refl, sym, ap, _∙_}
+use mathlib.Core.List.{List, [], _∷_}
 use mathlib.Core.Bool.{Bool, true, false}
-use mathlib.Core.Logic.{inl, inr}
-use native.Mathlib.Omega.{arith}
-use lib.ListN.{length, getD}
+use lib.ListN.{length}
 use lib.Dec.{ltb}
 use Rattle.steps.specs.Choice.{pick}
 use Rattle.steps.specs.Items.{nth}
 use Rattle.steps.proofs.Choice.{pick-eq, pick-ne}
-use Rattle.bytes.specs.Bytes.{u16At}
 use Rattle.strings.specs.declared.Fetched.{Fetched}
 use Rattle.strings.specs.declared.Fetched.the-variants as strings
-use Rattle.strings.specs.Table.{unitsAt, nowhere, placesOf, unitsOf, fetchedOf, bufferOf}
-use Rattle.strings.proofs.Local.{strings-length}
+use Rattle.strings.specs.Table.{fetchedOf, bufferOf}
 use Rattle.globals.specs.declared.Globals.{Globals}
-use Rattle.globals.proofs.Table.{Stands}
 use Rattle.reading.specs.Reading.{stringsAt}
-use Rattle.fetch.proofs.Laws.{strings-none, strings-some}
-use Rattle.string_places.specs.Parts.{countOf, TableAt}
+use Rattle.fetch.specs.Parts.{TableAt}
+use Rattle.string_places.specs.Parts.{countOf}
 use Rattle.string_places.proofs.Filling.{table-at}
 use Rattle.pair.specs.declared.Whose.{Whose}
 use Rattle.pair.specs.declared.Whose.the-variants.{Session, Template}
@@ -42,65 +37,6 @@ module _ (t s : List ℕ) (g h : Globals) (c : PairChecked) (is : c ≡ pairOf t
 
   pub session-table : (k : ℕ) → k ≡ countOf (h .table) (h .unique) → TableAt s (h .table) k
   session-table k i = table-at s (g .unique) refl h (both .session) k i
-
--- ---- a string of a table
-module _ {A B C : Type 0} (g : A → B) (f : B → C) (d : C) where
-  nth-there : (l : List A) (i : ℕ) → i < length l → (a : A) → f (g (getD l i a)) ≡ nth (map g l) i f d
-  unfolding nth
-  nth-there [] i h a = absurd (omega arith)
-  nth-there (x ∷ l) zero h a = refl
-  nth-there (x ∷ l) (suc i) h a = nth-there l i (omega arith) a
-
-nth-past : {A B : Type 0} (f : A → B) (d : B) (l : List A) (i : ℕ) → length l ≤ i → d ≡ nth l i f d
-unfolding nth
-nth-past f d [] i h = refl
-nth-past f d (x ∷ l) zero h = absurd (omega arith)
-nth-past f d (x ∷ l) (suc i) h = nth-past f d l i (omega arith)
-
-module _ (s : List ℕ) (p n i : ℕ) (st : Stands s p n) (l : i < n) (z w j : ℕ) (is : w ≡ u16At s (p + 2)) (wide : z ≡ w) (same : j ≡ i) where
-  end-is : p + 4 + z ≡ p + 4 + u16At s (p + 2)
-  end-is = ap (λ (k : ℕ). p + 4 + k) (wide ∙ is)
-
-  pub there-low : p + 4 ≤ p + 4 + z
-  there-low = omega arith
-
-  pub there-within : p + 4 + z ≤ length s
-  there-within = let k = end-is in let m = st .within in omega arith
-
-  pub there-string : j < length (placesOf s p (p + 4 + z))
-  there-string = subst⁻¹ (λ (k : ℕ). j < length (placesOf s p k)) end-is (let c = st .count in omega arith)
-
-  string-is : {X : Type 0} (f : List ℕ → X) (d : X) → f (unitsOf s p (p + 4 + z) j) ≡ nth (stringsAt s p) i f d
-  string-is f d =
-      (λ k. f (unitsOf s p (end-is k) (same k)))
-      ∙ nth-there (unitsAt s) f d (placesOf s p (p + 4 + u16At s (p + 2))) i (let c = st .count in omega arith) nowhere
-      ∙ ap (λ (x : List (List ℕ)). nth x i f d) (sym (strings-some s p (st .later)))
-
-  pub there-answer : (m : ℕ) (y : Fetched) → y ≡ fetchedOf m (unitsOf s p (p + 4 + z) j) → y ≡ nth (stringsAt s p) i (fetchedOf m) (strings.Refused 11 0)
-  there-answer m y e = e ∙ string-is (fetchedOf m) (strings.Refused 11 0)
-
-  pub there-buffer : (b a : List ℕ) → a ≡ bufferOf b (unitsOf s p (p + 4 + z) j) → a ≡ nth (stringsAt s p) i (bufferOf b) b
-  there-buffer b a e = e ∙ string-is (bufferOf b) b
-
-pub ruleset there-laws = (there-low, there-within, there-string)
-
-strings-count : (s : List ℕ) (p n : ℕ) → TableAt s p n → length (stringsAt s p) ≡ n
-strings-count s p n (inl t) = ap length (strings-none s p (t .0)) ∙ sym (t .1)
-strings-count s p n (inr st) = ap length (strings-some s p (st .later)) ∙ strings-length s p (p + 4 + u16At s (p + 2)) ∙ st .count
-
-module _ (s : List ℕ) (p n i : ℕ) (told : TableAt s p n) where
-  pub known-none : (m : ℕ) → n ≤ i → strings.Refused 11 0 ≡ nth (stringsAt s p) i (fetchedOf m) (strings.Refused 11 0)
-  known-none m l = nth-past _ _ (stringsAt s p) i (let c = strings-count s p n told in omega arith)
-
-  pub known-kept : (b : List ℕ) → n ≤ i → b ≡ nth (stringsAt s p) i (bufferOf b) b
-  known-kept b l = nth-past (bufferOf b) b (stringsAt s p) i (let c = strings-count s p n told in omega arith)
-
-  pub known-some : i < n → Stands s p n
-  known-some l = go told
-    where
-      go : TableAt s p n → Stands s p n
-      go (inl t) = absurd (omega arith)
-      go (inr st) = st
 
 -- ---- in whose table
 module _ (w : Whose) (h : Globals) where

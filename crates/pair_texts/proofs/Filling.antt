@@ -11,7 +11,7 @@ use Rattle.steps.proofs.Choice.{pick-yes, pick-no}
 use Rattle.segments.specs.declared.Cursor.{Cursor}
 use Rattle.globals.specs.declared.Globals.{Globals}
 use Rattle.string_places.specs.Places.{placesAt, tableOf}
-use Rattle.string_places.specs.Parts.{TableAt}
+use Rattle.fetch.specs.Parts.{TableAt}
 use Rattle.string_places.proofs.Filling.{places-count}
 use Rattle.pair.specs.declared.Whose.{Whose}
 use Rattle.pair.specs.declared.Of.{Of}

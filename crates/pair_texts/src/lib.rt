@@ -1,15 +1,11 @@
 // The strings and texts of a template and a session.
 ghost use mathlib.Core.Path.{_≡_};
-ghost use Prim.Native.Nat.{_+_, _*_, _≤_, _<_};
+ghost use Prim.Native.Nat.{_*_, _≤_};
 ghost use lib.Dec.{ltb};
 ghost use lib.ListN.{length};
 ghost use mathlib.Core.Bool.{_||_};
-ghost use Rattle.steps.specs.Items.{nth};
-ghost use Rattle.strings.specs.Table.{fetchedOf, bufferOf};
-ghost use Rattle.globals.proofs.Table.{Stands};
-ghost use Rattle.reading.specs.Reading.{stringsAt};
 ghost use Rattle.string_places.specs.Places.{placesAt, tableOf as tableWith};
-ghost use Rattle.string_places.specs.Parts.{TableAt};
+ghost use Rattle.fetch.specs.Parts.{TableAt};
 ghost use Rattle.pair_texts.specs.Texts.{tableOf, pairFetchOf, pairBufferOf, toldOf, pairTextOf, pairTextBuffer};
 ghost use Rattle.pair_texts.specs.Tables.{bothFilled, firstTable, secondTable, pairFillOf, templateTableAfter, sessionTableAfter};
 use globals::Globals;
@@ -61,31 +57,6 @@ fn told(whose: Whose, r: Fetched) -> PairFetched
     }
 }
 
-// String `index` of the n strings of the SST at p, which has it.
-fn fetch_there(s: &[u8], p: usize, n: u32, index: u32, buf: &mut [u16]) -> Fetched
-    requires { ⌜ Stands (now s) p n × (index < n) ⌝ }
-    ensures { λ r. ⌜ r ≡ nth (stringsAt (now (s .entry)) p) index (fetchedOf (length (now (buf .entry)))) (Fetched.Refused 11 0) ⌝ }
-    ensures { λ r. ⌜ now (buf .exit) ≡ nth (stringsAt (now (s .entry)) p) index (bufferOf (now (buf .entry))) (now (buf .entry)) ⌝ }
-{
-    let size = bytes::u16_as_usize(bytes::u16_at(s, p + 2));
-    strings::fetch_string(s, p, p + 4 + size, bytes::u32_as_usize(index), buf)
-}
-
-// String `index` of the n strings of the SST at p.
-fn fetch_known(s: &[u8], p: usize, n: u32, index: u32, buf: &mut [u16]) -> Fetched
-    requires { ⌜ TableAt (now s) p n ⌝ }
-    ensures { λ r. ⌜ r ≡ nth (stringsAt (now (s .entry)) p) index (fetchedOf (length (now (buf .entry)))) (Fetched.Refused 11 0) ⌝ }
-    ensures { λ r. ⌜ now (buf .exit) ≡ nth (stringsAt (now (s .entry)) p) index (bufferOf (now (buf .entry))) (now (buf .entry)) ⌝ }
-{
-    if n <= index {
-        return Fetched::Refused {
-            number: 11,
-            offset: 0,
-        };
-    }
-    fetch_there(s, p, n, index, buf)
-}
-
 // The units of a string: the session's index or the template's, as `whose` says; the answer says of whose table.
 pub fn pair_fetch(
     template: &[u8],
@@ -113,13 +84,16 @@ pub fn pair_fetch(
         } => match whose_table(whose, h) {
             Whose::Session => {
                 let n = string_places::count_of(h.table, h.unique);
-                told(Whose::Session, fetch_known(session, h.table, n, index, buf))
+                told(
+                    Whose::Session,
+                    fetch::fetch_known(session, h.table, n, index, buf),
+                )
             }
             Whose::Template => {
                 let n = string_places::count_of(g.table, g.unique);
                 told(
                     Whose::Template,
-                    fetch_known(template, g.table, n, index, buf),
+                    fetch::fetch_known(template, g.table, n, index, buf),
                 )
             }
         },

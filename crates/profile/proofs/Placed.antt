@@ -7,7 +7,9 @@ use Rattle.steps.proofs.Items.{Nearer, collect-step}
 use Rattle.cell.specs.declared.Cell.{Cell}
 use Rattle.reading.specs.declared.Place.{Place}
 use Rattle.reading.specs.Cells.{cellItem, remaining, listedFrom}
+use Rattle.reading.specs.Scan.{PastFrom}
 use Rattle.reading.proofs.Laws.{item-near}
+use Rattle.reading.proofs.Scanning.{leads-same}
 use Rattle.listing.specs.declared.Step.{Step}
 use Rattle.listing.specs.declared.Step.the-variants as step
 use Rattle.listing.specs.declared.Listed.the-variants as listed
@@ -58,11 +60,15 @@ module _ (s : List ℕ) (v₀ v : Place) {r : Step} (is : itemOf r ≡ cellItem 
   unfolding placedItem
   by-step h = inv .1 ∙ placed-step s v ∙ ap (λ (y : Item Place Cell). onto (withHeader (v .at) y) (λ t. placedFrom s t)) (sym is ∙ ap itemOf h)
 
-  pub along-past : (w : Place) → r ≡ step.Skips w → Along s v₀ w
-  along-past w h = (next-skip s v₀ v r is (inv .0) w h, by-step h)
+  pub along-past : (w : Place) → r ≡ step.Skips w → (d : Place) → PastFrom s w d → Along s v₀ d
+  unfolding placedItem
+  along-past w h d p = (
+    next-skip s v₀ v r is (inv .0) w h d p,
+    by-step h ∙ leads-same s (placedFrom s) (λ u x e. placed-step s u ∙ ap (λ (y : Item Place Cell). onto (withHeader (u .at) y) (λ t. placedFrom s t)) e) w d (p .leads),
+  )
 
-  pub past-nearer : (w : Place) → r ≡ step.Skips w → remaining s w < remaining s v
-  past-nearer w h = less-skip s v₀ v r is w h
+  pub past-nearer : (w : Place) → r ≡ step.Skips w → (d : Place) → PastFrom s w d → remaining s d < remaining s v
+  past-nearer w h d p = less-skip s v₀ v r is w h d p
 
   pub next-there : (c : Cell) (w : Place) → r ≡ step.Gives c w → listed.Cell c w ≡ nextOf s v₀
   next-there c w h = next-cell s v₀ v r is (inv .0) c w h

@@ -56,7 +56,7 @@ pub fn next_with_record(s: &[u8], from: Place) -> NextPlaced
                 };
             }
             Step::Skips(next) => {
-                v = next;
+                v = reading::past_from(s, next);
             }
             Step::Ends => {
                 return NextPlaced::End;

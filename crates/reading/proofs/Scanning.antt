@@ -1,29 +1,33 @@
 -- The laws of a scan, with what a call gave as the proofs have it, and what a scanned record says of the listing. Assumes nothing.
-use Prim.Native.Nat.{ℕ, _+_, _^_, _≤_, _<_}
-use mathlib.Core.Path.{_≡_, refl, sym, ap, _∙_}
+use Prim.Native.Nat.{ℕ, _+_, _-_, _*_, _^_, _≤_, _<_}
+use mathlib.Core.Path.{_≡_, refl, sym, ap, _∙_, subst}
+use mathlib.Core.Bool.{Bool, true, false}
 use mathlib.Core.List.{List, [], _++_}
 use native.Mathlib.Omega.{arith}
 use lib.Dec.{eqb}
 use lib.ListN.{length}
 use borrow.Author.Tests.{eqb-true, eqb-false}
-use Rattle.steps.proofs.Choice.{pick-any, pick-by, pick-eq, pick-ne}
+use Rattle.steps.specs.Choice.{pick}
+use Rattle.steps.proofs.Choice.{pick-any, pick-by, pick-eq, pick-ne, never}
 use Rattle.steps.specs.Items.{Item, skips, ends, onto}
 use Rattle.record.specs.declared.Header.{Header}
 use Rattle.record.specs.declared.Header.the-variants.{Record, Cut, End}
 use Rattle.record.specs.Record.{headerAt}
 use Rattle.record.proofs.Laws.{whole}
 use Rattle.cell.specs.declared.Cell.{Cell}
-use Rattle.cell.specs.Cells.{shapeOf, rowAt, firstAt, countOf, cellsOf}
+use Rattle.cell.specs.declared.Shape.{Shape}
+use Rattle.cell.specs.declared.Shape.the-variants.{BLANK, NUMBER, RK, LABELSST, BOOLERR, MULRK, MULBLANK, FORMULA, OTHER}
+use Rattle.cell.specs.Cells.{shapeOf, isCell, rowAt, firstAt, countOf, cellsOf}
 use Rattle.cell.proofs.Sizes.{count-room}
 use Rattle.reading.specs.declared.Place.{Place}
 use Rattle.reading.specs.Parts.{outsideItem}
-use Rattle.reading.specs.Cells.{placeAt, otherItem, onFound, recordItem, onHeader as itemOn, cellItem, listedFrom}
+use Rattle.reading.specs.Cells.{placeAt, otherItem, onFound, recordItem, onHeader as itemOn, cellItem, remaining, listedFrom}
 use Rattle.reading.proofs.Laws.{count-small, found-absent, listed-step, record-cells}
 use Rattle.reading.specs.declared.Outside.{Outside}
 use Rattle.reading.specs.declared.Outside.the-variants as outside
 use Rattle.reading.specs.declared.Scanned.{Scanned}
 use Rattle.reading.specs.declared.Scanned.the-variants as scanned
-use Rattle.reading.specs.Scan.{past, without, recordScan, onHeader, scanOf}
+use Rattle.reading.specs.Scan.{past, without, recordScan, onHeader, scanOf, other, Leads, here, over, Past, PastFrom}
 
 -- ---- a record with cells has its row and first column
 module _ (s : List ℕ) (at id z e n : ℕ) {r : Header} (is : r ≡ headerAt s at) (h : r ≡ Record id z e) (count : n ≡ countOf (shapeOf id) s at z) (some : n ≡ 0 → ⊥) where
@@ -109,26 +113,26 @@ module _ (s : List ℕ) (at level : ℕ) where
   no-record h e i = by-item outside.End (e ∙ ap (itemOn s (placeAt at level)) (sym i)) (λ e l i. absurd (let z : _≡_ {A = ℕ} 0 1 = cc in omega arith))
 
   module _ (id z e : ℕ) (h : headerAt s at ≡ Record id z e) where
-    abbrev other : Item Place Cell
-    other = otherItem (placeAt 0 level) id e
+    abbrev beside : Item Place Cell
+    beside = otherItem (placeAt 0 level) id e
 
     -- a record without cells leads on to its end, or ends the list
     record Onward (y : Item Place Cell) : Type 0 where
       same : outsideItem (past y) ≡ y
       end : (f l : ℕ) → past y ≡ outside.Next f l → f ≡ e
 
-    onward : Onward other
+    onward : Onward beside
     unfolding otherItem placeAt
     onward =
         let on : (l : ℕ) → Onward (skips (placeAt e l)) = λ l. record { same = refl; end = λ f m i. cc } in
         let over : Onward ends = record { same = refl; end = λ f m i. absurd (let z : _≡_ {A = ℕ} 0 1 = cc in omega arith) } in
         pick-any Onward _ (pick-any Onward _ (on _) over) (pick-any Onward _ (pick-any Onward _ over (on _)) (on _))
 
-    by-other : recordItem s (placeAt at level) id z e ≡ otherItem (placeAt at level) id e → Passed s at level (past other)
+    by-other : recordItem s (placeAt at level) id z e ≡ otherItem (placeAt at level) id e → Passed s at level (past beside)
     unfolding cellItem placeAt otherItem
     by-other g =
         let w = whole s at id z e h in
-        by-item (past other) (onward .same ∙ sym g ∙ ap (itemOn s (placeAt at level)) (sym h)) (λ f l i. let k = onward .end f l i in (omega arith, omega arith))
+        by-item (past beside) (onward .same ∙ sym g ∙ ap (itemOn s (placeAt at level)) (sym h)) (λ f l i. let k = onward .end f l i in (omega arith, omega arith))
 
     record-says : Scan s at level (recordScan s at level id z e)
     unfolding recordScan recordItem placeAt
@@ -165,3 +169,73 @@ module _ (s : List ℕ) (at level : ℕ) where
   pub scan-says : Scan s at level (scanOf s at level)
   unfolding scanOf
   scan-says = header-says (headerAt s at) refl
+
+-- ---- past records without cells
+pub other-typed : (id j : ℕ) (x : Bool) → id ≡ j → x ≡ other j → x ≡ other id
+other-typed id j x e i = i ∙ ap other (sym e)
+
+no-cells : (h : Shape) (s : List ℕ) (at z : ℕ) → isCell h ≡ false → countOf h s at z ≡ 0
+no-cells BLANK s at z e = never (cc)
+no-cells NUMBER s at z e = never (cc)
+no-cells RK s at z e = never (cc)
+no-cells LABELSST s at z e = never (cc)
+no-cells BOOLERR s at z e = never (cc)
+no-cells MULRK s at z e = never (cc)
+no-cells MULBLANK s at z e = never (cc)
+no-cells FORMULA s at z e = never (cc)
+no-cells OTHER s at z e = refl
+
+module _ (s : List ℕ) (at t z e : ℕ) (h : headerAt s at ≡ Record t z e) where
+  skipped-by : (a b c : Bool) → isCell (shapeOf t) ≡ a → eqb t 0x0809 ≡ b → eqb t 0x000A ≡ c → pick a false (pick b false (pick c false true)) ≡ true → itemOn s (placeAt at 0) (Record t z e) ≡ skips (placeAt e 0)
+  unfolding pick recordItem otherItem placeAt
+  skipped-by true b c i j k x = never (cc)
+  skipped-by false true c i j k x = never (cc)
+  skipped-by false false true i j k x = never (cc)
+  skipped-by false false false i j k x =
+      let n = no-cells (shapeOf t) s at z i in
+      ap (onFound (placeAt at 0) t e) (sym (found-absent s (shapeOf t) at z 0 (omega arith)))
+      ∙ sym (pick-ne _ _ _ t 0x0809 (eqb-false t 0x0809 j) (pick-ne _ _ _ t 0x000A (eqb-false t 0x000A k) refl))
+
+  pub other-skipped : other t ≡ true → cellItem s (placeAt at 0) ≡ skips (placeAt e 0)
+  unfolding other cellItem placeAt
+  other-skipped x = ap (itemOn s (placeAt at 0)) h ∙ skipped-by (isCell (shapeOf t)) (eqb t 0x0809) (eqb t 0x000A) refl refl refl x
+
+-- what a record without a cell doesn't change is the same at both places
+pub leads-same : {A : Type 0} (s : List ℕ) (f : Place → A) → ((v w : Place) → cellItem s v ≡ skips w → f v ≡ f w) → (u v : Place) → Leads s u v → f u ≡ f v
+leads-same s f same u v here = refl
+leads-same s f same u v (over {v = w} p e) = leads-same s f same u w p ∙ same w v e
+
+pub past-list : {s : List ℕ} {level from r : ℕ} → Past s level from r → listedFrom s (placeAt from level) ≡ listedFrom s (placeAt r level)
+past-list {s} {level} {from} {r} p =
+    leads-same s (listedFrom s) (λ v w e. listed-step s v ∙ ap (λ (x : Item Place Cell). onto x (λ t. listedFrom s t)) e) (placeAt from level) (placeAt r level) (p .leads)
+
+pub past-start : (s : List ℕ) (level at : ℕ) → Past s level at at
+past-start s level at = record { leads = here; near = omega arith; nearer = λ f. absurd (f refl) }
+
+module _ (s : List ℕ) (level from at : ℕ) (p : Past s level from at) (l : level ≡ 0) {r : Header} (is : r ≡ headerAt s at) (t z e : ℕ) (h : r ≡ Record t z e) {x : Bool} (x-is : x ≡ other t) (x-yes : x ≡ true) where
+  pub past-nearer : length s - e < length s - at
+  past-nearer = let w = whole s at t z e (sym is ∙ h) in omega arith
+
+  pub past-on : Past s level from e
+  past-on =
+      let w = past-nearer in
+      let n = p .near in
+      record {
+        leads = over (p .leads) (subst (λ (v : ℕ). cellItem s (placeAt at v) ≡ skips (placeAt e v)) (sym l) (other-skipped s at t z e (sym is ∙ h) (sym x-is ∙ x-yes)));
+        near = omega arith;
+        nearer = λ _. omega arith;
+      }
+
+pub ruleset past-laws = (past-start, past-nearer, past-on)
+
+pub from-start : (s : List ℕ) (v : Place) → PastFrom s v v
+from-start s v = record { leads = here; near = omega arith }
+
+pub from-past : (s : List ℕ) (v : Place) → v .part ≡ 0 → (r : ℕ) → Past s (v .level) (v .at) r → PastFrom s v (record { at = r; part = 0; level = v .level })
+unfolding placeAt remaining
+from-past s v e r p =
+    let same : placeAt (v .at) (v .level) ≡ v = (λ i. record { at = v .at; part = sym e i; level = v .level }) in
+    record {
+      leads = subst (λ (w : Place). Leads s w (placeAt r (v .level))) same (p .leads);
+      near = let n = p .near in omega arith;
+    }

@@ -1,9 +1,9 @@
 // What a stream says: the definitions of its reading. The code is what all who go through a sheet's cells share: a place, the way past a record, and the
-// cells of a record for those who need their addresses and no values.
+// cells of a record for those who need their addresses and no values; and the short way past records without any.
 ghost use mathlib.Core.Path.{_≡_};
 ghost use Rattle.reading.specs.Cells.{placeAt, otherItem};
 ghost use Rattle.reading.specs.Parts.{outsideItem};
-ghost use Rattle.reading.specs.Scan.{scanOf};
+ghost use Rattle.reading.specs.Scan.{scanOf, other, Past, PastFrom};
 use record::Header;
 
 // The next record, the next cell in it, and how many substreams inside the sheet's own it lies in.
@@ -83,5 +83,68 @@ pub fn scan(s: &[u8], at: usize, level: u8) -> Scanned
         }
         Header::Cut => Scanned::None(Outside::End),
         Header::End => Scanned::None(Outside::End),
+    }
+}
+
+// ---- past records without cells
+
+// A record that has no cells and neither opens nor ends a substream.
+fn is_other(id: u16) -> bool
+    ensures { λ r. ⌜ r ≡ other id ⌝ }
+{
+    match id {
+        0x0201 => false,
+        0x0203 => false,
+        0x027E => false,
+        0x00FD => false,
+        0x0205 => false,
+        0x00BD => false,
+        0x00BE => false,
+        0x0006 => false,
+        0x0809 => false,
+        0x000A => false,
+        _ => true,
+    }
+}
+
+// Past such records, where they stand directly in the sheet: a short loop of its own, since a stream may have millions of them.
+pub fn past_others(s: &[u8], from: usize, level: u8) -> usize
+    ensures { λ r. ⌜ Past (now (s .entry)) level from r ⌝ }
+{
+    if level != 0 {
+        return from;
+    }
+    let mut at = from;
+    loop {
+        match record::header_at(s, at) {
+            Header::Record { kind, size: _, end } => {
+                if is_other(kind) {
+                    at = end;
+                } else {
+                    return at;
+                }
+            }
+            Header::Cut => {
+                return at;
+            }
+            Header::End => {
+                return at;
+            }
+        }
+    }
+}
+
+// The same from a place on.
+pub fn past_from(s: &[u8], from: Place) -> Place
+    ensures { λ r. ⌜ PastFrom (now (s .entry)) from r ⌝ }
+{
+    if from.part != 0 {
+        return from;
+    }
+    let level = from.level;
+    Place {
+        at: past_others(s, from.at, level),
+        part: 0,
+        level,
     }
 }

@@ -31,11 +31,13 @@ use Rattle.text_result.specs.TextResult.{isText, hasText}
 use Rattle.reading.specs.declared.Place.{Place}
 use Rattle.reading.specs.Cells.{placeAt, listedFrom}
 use Rattle.reading.specs.Reading.{saysText, textAfter}
+use Rattle.reading.specs.Scan.{Past}
 use Rattle.reading.proofs.Laws.{record-cells}
+use Rattle.reading.proofs.Scanning.{past-list}
 use Rattle.differences.specs.Differences.{none, same, shown, alike, wordsFrom}
 use Rattle.differences.specs.Units.{unitsBy}
 use Rattle.differences.proofs.Laws.{same-refl}
-use Rattle.cell_addresses.specs.Addresses.{addressIn, holds, AscendFrom, When, Past}
+use Rattle.cell_addresses.specs.Addresses.{addressIn, holds, AscendFrom, When}
 use Rattle.cell_addresses.proofs.Laws.{value-here, value-past, ascend-low, ascend-below}
 use Rattle.cell_differences.specs.Merge.{atBoth, differs, wordsBetween}
 use Rattle.cell_differences.proofs.Laws.{values-same}
@@ -117,9 +119,9 @@ module _ (s t : List ℕ) (m a₀ b₀ a b : ℕ) (g : Ahead s t m (listedFrom s
     past-both =
         ahead-on s t m _ _ (listedFrom s (placeAt a 0)) (listedFrom t (placeAt b 0)) _ _ g
         (record {
-          up = subst (AscendFrom 0) (x .list) (g .up);
-          down = subst (AscendFrom 0) (y .list) (g .down);
-          words = λ p q k base from. let u = x .list in let v = y .list in λ z. wordsBetween s t p q (u z) (v z) base from;
+          up = subst (AscendFrom 0) (past-list x) (g .up);
+          down = subst (AscendFrom 0) (past-list y) (g .down);
+          words = λ p q k base from. let u = past-list x in let v = past-list y in λ z. wordsBetween s t p q (u z) (v z) base from;
         })
 
     pub past-nearer-first : (c ≡ a → ⊥) → (length s - c) + (length t - e) < (length s - a) + (length t - b)
@@ -305,25 +307,27 @@ module _ (s : List ℕ) (id a z n : ℕ) (c : Counted s id a z n) where
     by-field : (f : Field) → PlainField f → (j : ℕ) → fieldOf (shapeOf j) ≡ f → id ≡ j → n ≡ 1 → fieldAt f s (a + 8) ≡ fieldAt f t (b + 8) → Says
     by-field f h j i e o g = single f j i e o (λ p q k. (agree-field s t p q f h (a + 8) (b + 8) g, tt))
 
-    fields : (w i j : ℕ) (r : Bool) → i ≡ a + 10 → j ≡ b + 10 → r ≡ eqb (numAt s w i) (numAt t w j) → r ≡ true → numAt s w (a + 8 + 2) ≡ numAt t w (b + 8 + 2)
-    fields w i j r e f x y =
-        let u : a + 8 + 2 ≡ i = omega arith in
-        let v : b + 8 + 2 ≡ j = omega arith in
-        ap (numAt s w) u ∙ eqb-true (numAt s w i) (numAt t w j) (sym x ∙ y) ∙ ap (numAt t w) (sym v)
+    -- by the number of the w bytes that stand 10 after the header
+    number-says : (w : ℕ) (f : Field) → PlainField f → (k : ℕ) → fieldOf (shapeOf k) ≡ f → id ≡ k → n ≡ 1 → ((u : List ℕ) (c : ℕ) → fieldAt f u c ≡ numAt u w (c + 2)) → (x y : ℕ) → x ≡ numAt s w (a + 10) → y ≡ numAt t w (b + 10) → When (eqb x y) Says
+    number-says w f h k i e o is x y j l =
+        let u : a + 10 ≡ a + 8 + 2 = omega arith in
+        let v : b + 8 + 2 ≡ b + 10 = omega arith in
+        when-by (eqb x y) Says (λ r. by-field f h k i e o (is s (a + 8) ∙ ap (numAt s w) (sym u) ∙ sym j ∙ eqb-true x y r ∙ l ∙ ap (numAt t w) (sym v) ∙ sym (is t (b + 8))))
+
+    module _ (x y : ℕ) where
+      pub float-says : id ≡ 0x0203 → x ≡ u64At s (a + 10) → y ≡ u64At t (b + 10) → When (eqb x y) Says
+      unfolding shapeOf pick fieldAt
+      float-says e i j = number-says 8 Float tt 0x0203 refl e (float-one e) (λ u c. refl) x y i j
+
+      pub rk-says : id ≡ 0x027E → x ≡ u32At s (a + 10) → y ≡ u32At t (b + 10) → When (eqb x y) Says
+      unfolding shapeOf pick fieldAt
+      rk-says e i j = number-says 4 RkWord tt 0x027E refl e (rk-one e) (λ u c. refl) x y i j
+
+      pub truth-says : id ≡ 0x0205 → x ≡ u16At s (a + 10) → y ≡ u16At t (b + 10) → When (eqb x y) Says
+      unfolding shapeOf pick fieldAt
+      truth-says e i j = number-says 2 TruthError tt 0x0205 refl e (truth-one e) (λ u c. refl) x y i j
 
     module _ (r : Bool) where
-      pub float-says : id ≡ 0x0203 → r ≡ eqb (u64At s (a + 10)) (u64At t (b + 10)) → When r Says
-      unfolding shapeOf pick fieldAt
-      float-says e x = when-by r Says (λ y. by-field Float tt 0x0203 refl e (float-one e) (fields 8 (a + 10) (b + 10) r refl refl x y))
-
-      pub rk-says : id ≡ 0x027E → r ≡ eqb (u32At s (a + 10)) (u32At t (b + 10)) → When r Says
-      unfolding shapeOf pick fieldAt
-      rk-says e x = when-by r Says (λ y. by-field RkWord tt 0x027E refl e (rk-one e) (fields 4 (a + 10) (b + 10) r refl refl x y))
-
-      pub truth-says : id ≡ 0x0205 → r ≡ eqb (u16At s (a + 10)) (u16At t (b + 10)) → When r Says
-      unfolding shapeOf pick fieldAt
-      truth-says e x = when-by r Says (λ y. by-field TruthError tt 0x0205 refl e (truth-one e) (fields 2 (a + 10) (b + 10) r refl refl x y))
-
       pub index-says : id ≡ 0x00FD → When r (AllAgree s t m TextIndex (a + 8) (b + 8) 1) → When r Says
       unfolding shapeOf pick
       index-says e = when-map r _ Says (λ h. single TextIndex 0x00FD refl e (index-one e) h)
@@ -437,9 +441,6 @@ module _ (s t : List ℕ) (m a b id z e : ℕ) {h : Header} (h-is : h ≡ header
 
 pub no-record : (s t : List ℕ) (m a b : ℕ) → SameIf s t m a b 0
 no-record s t m a b h = absurd (omega arith)
-
-pub number-eqb : (x y u v : ℕ) → x ≡ u → y ≡ v → eqb x y ≡ eqb u v
-number-eqb x y u v e f = λ z. eqb (e z) (f z)
 
 -- ---- places
 pub place-is : (v : Place) → v .part ≡ 0 → v .level ≡ 0 → v ≡ placeAt (v .at) 0

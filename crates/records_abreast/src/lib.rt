@@ -1,10 +1,7 @@
 // Two sheets side by side: records that say the same in both are passed over, one after the other.
-ghost use mathlib.Core.Path.{_≡_};
 ghost use mathlib.Core.Bool.{true};
 ghost use Prim.Native.Nat.{_+_, _*_, _≤_, _<_};
 ghost use lib.ListN.{length};
-ghost use lib.Dec.{eqb};
-ghost use Rattle.bytes.specs.Bytes.{u16At, u32At, u64At};
 ghost use Rattle.cell.specs.Cells.{shapeOf, fieldOf};
 ghost use Rattle.value.specs.declared.Field.the-variants.{TextIndex, StoredResult};
 ghost use Rattle.reading.specs.Cells.{placeAt, listedFrom};
@@ -27,27 +24,6 @@ struct Pair {
 }
 
 // ---- value fields
-
-fn same_u64(s: &[u8], a: usize, t: &[u8], b: usize) -> bool
-    requires { ⌜ (a + 8 ≤ length (now s)) × (b + 8 ≤ length (now t)) ⌝ }
-    ensures { λ r. ⌜ r ≡ eqb (u64At (now (s .entry)) a) (u64At (now (t .entry)) b) ⌝ }
-{
-    bytes::u64_at(s, a) == bytes::u64_at(t, b)
-}
-
-fn same_u32(s: &[u8], a: usize, t: &[u8], b: usize) -> bool
-    requires { ⌜ (a + 4 ≤ length (now s)) × (b + 4 ≤ length (now t)) ⌝ }
-    ensures { λ r. ⌜ r ≡ eqb (u32At (now (s .entry)) a) (u32At (now (t .entry)) b) ⌝ }
-{
-    bytes::u32_at(s, a) == bytes::u32_at(t, b)
-}
-
-fn same_u16(s: &[u8], a: usize, t: &[u8], b: usize) -> bool
-    requires { ⌜ (a + 2 ≤ length (now s)) × (b + 2 ≤ length (now t)) ⌝ }
-    ensures { λ r. ⌜ r ≡ eqb (u16At (now (s .entry)) a) (u16At (now (t .entry)) b) ⌝ }
-{
-    bytes::u16_at(s, a) == bytes::u16_at(t, b)
-}
 
 // The n words of two multiple records, from the parts at a and at b on.
 fn same_words(s: &[u8], a: usize, t: &[u8], b: usize, n: u16) -> bool
@@ -121,12 +97,12 @@ fn same_cells(
     ensures { λ r. ⌜ When r (AllAgree (now (s .entry)) (now (t .entry)) common (fieldOf (shapeOf id)) (a + 8) (b + 8) n) ⌝ }
 {
     match id {
-        0x0203 => same_u64(s, a + 10, t, b + 10),
-        0x027E => same_u32(s, a + 10, t, b + 10),
+        0x0203 => bytes::u64_at(s, a + 10) == bytes::u64_at(t, b + 10),
+        0x027E => bytes::u32_at(s, a + 10) == bytes::u32_at(t, b + 10),
         0x00FD => same_index(s, a + 8, t, b + 8, common),
         0x0006 => same_stored(s, a + 8, t, b + 8),
         0x00BD => same_words(s, a + 8, t, b + 8, n),
-        0x0205 => same_u16(s, a + 10, t, b + 10),
+        0x0205 => bytes::u16_at(s, a + 10) == bytes::u16_at(t, b + 10),
         0x0201 => true,
         0x00BE => true,
         _ => false,
@@ -202,8 +178,8 @@ fn pass_records(s: &[u8], a: usize, t: &[u8], b: usize, common: u32) -> Pair
     loop {
         let d = same_record(s, x, t, y, common);
         if d == 0 {
-            let c = cell_addresses::past_others(s, x, 0);
-            let e = cell_addresses::past_others(t, y, 0);
+            let c = reading::past_others(s, x, 0);
+            let e = reading::past_others(t, y, 0);
             if c == x {
                 if e == y {
                     return Pair {

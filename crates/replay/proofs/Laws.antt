@@ -24,18 +24,18 @@ use Rattle.correction.specs.Parts.{aimIn, AimWithin, TargetWithin}
 use Rattle.passes_after.specs.Stored.{storedIn, Stored}
 use Rattle.journal.specs.Entries.{countIn, entryAt, Entry, entryIn, fitsAt, entriesFit, journalFits}
 use Rattle.replay_entry.specs.Steps.{makeOf, undoOf}
-use Rattle.replay_entry.specs.Parts.{entryAimed}
+use Rattle.replay_entry.specs.Parts.{entryAimed, stepOf}
 use Rattle.replay.specs.declared.Done.{Done}
 use Rattle.replay.specs.declared.Done.the-variants as done
 use Rattle.replay.specs.declared.Run.the-variants as run
-use Rattle.replay_entry.specs.Replay.{forwards, backwards, streamRan}
-use Rattle.replay.proofs.Running.{Going, going-stop, going-left, going-again, going-all, going-final, Backing, backing-stop, backing-left, backing-again, backing-all, backing-final}
+use Rattle.replay_entry.specs.Replay.{streamRan}
+use Rattle.replay.proofs.Running.{restOf, rest-start, run-end, run-stopped, run-on, run-same}
 use Rattle.journal_claims.specs.Replayed.{Bytes, Small, Well}
 use Rattle.journal_claims.proofs.Aims.{aim-stays, check-stays}
 use Rattle.journal_claims.proofs.Made.{entries-small, entries-store}
 use Rattle.address_lookup.specs.Table.{keyAt, sheetIn, rowIn, columnIn, slot, Room, Knows, AimsAt}
 use Rattle.address_lookup.proofs.Laws.{knows-none}
-use Rattle.replay.specs.Parts.{Passes, Formed, doneOf, runOf}
+use Rattle.replay.specs.Parts.{Passes, Formed, doneOf, runOf, runsBy, turnOf}
 
 -- ---- the cell of an entry
 module _ (s : List ℕ) (u t : ℕ) (x : Entry) {r : Target} (is : AimsAt s u t x r) (f : Field) (p : ℕ) (h : r ≡ target.One f p) where
@@ -76,17 +76,24 @@ module _ (unique : ℕ) (keys : List ℕ) (n : ℕ) (marks fields : List ℕ) wh
       well : Well x
       well = subst Well ((λ z. entryIn j (sym a z)) ∙ x-is) (formed .each i l)
 
-      make-kept : Kept (streamAfter s (makeOf unique t x s))
-      make-kept = by-correction (makeOf unique t x s) (λ f p b h.
-          entries-store s (passes .lent) t (passes .globals) (passes .checked) x (subst Small x-is (entries-small j at (formed .bytes))) well f p b .0 (ap (λ (q : ℕ). makeOf q t x s) (passes .strings) ∙ h))
+      step-kept : (back : Bool) → Kept (streamAfter s (stepOf back unique t x s))
+      step-kept back = by-correction (stepOf back unique t x s) (go back)
+        where
+          go : (b : Bool) (f : Field) (p n : ℕ) → stepOf b unique t x s ≡ writes f p n → Stored s (passes .lent) (x .sheet) f p n
+          go b f p n h = stores b (ap (λ (q : ℕ). stepOf b q t x s) (passes .strings) ∙ h)
+            where
+              both : (makeOf (passes .globals .unique) t x s ≡ writes f p n → Stored s (passes .lent) (x .sheet) f p n) × (undoOf (passes .globals .unique) t x s ≡ writes f p n → Stored s (passes .lent) (x .sheet) f p n)
+              both = entries-store s (passes .lent) t (passes .globals) (passes .checked) x (subst Small x-is (entries-small j at (formed .bytes))) well f p n
 
-      undo-kept : Kept (streamAfter s (undoOf unique t x s))
-      undo-kept = by-correction (undoOf unique t x s) (λ f p b h.
-          entries-store s (passes .lent) t (passes .globals) (passes .checked) x (subst Small x-is (entries-small j at (formed .bytes))) well f p b .1 (ap (λ (q : ℕ). undoOf q t x s) (passes .strings) ∙ h))
+              stores : (b : Bool) → stepOf b (passes .globals .unique) t x s ≡ writes f p n → Stored s (passes .lent) (x .sheet) f p n
+              stores true = both .1
+              stores false = both .0
 
--- ---- a run: G is how far it has come
-pub record Running (G : Type 0) (unique : ℕ) (keys₀ marks₀ fields₀ s keys marks fields : List ℕ) (n : ℕ) : Type 0 where
-  pub comes : G
+-- ---- a run
+pub record Running (back : Bool) (unique t : ℕ) (j : List ℕ) (count : ℕ) (s₀ keys₀ marks₀ fields₀ s keys marks fields : List ℕ) (n past : ℕ) : Type 0 where
+  pub within : past ≤ count
+  pub same : length s ≡ length s₀
+  pub rest : runsBy back unique t j count s₀ ≡ restOf back unique t j count past s
   pub passes : Passes s unique
   pub knows : Knows s keys n marks fields
   pub few : n ≤ 3072
@@ -95,21 +102,28 @@ pub record Running (G : Type 0) (unique : ℕ) (keys₀ marks₀ fields₀ s key
   pub long-marks : length marks ≡ length marks₀
   pub long-fields : length fields ≡ length fields₀
 
-running-on : {G : Type 0} (unique : ℕ) (keys₀ marks₀ fields₀ s keys marks fields : List ℕ) (n : ℕ) (H : Type 0) → Running G unique keys₀ marks₀ fields₀ s keys marks fields n
-    → (s′ keys′ marks′ fields′ : List ℕ) (n′ : ℕ) → H → Passes s′ unique → Knows s′ keys′ n′ marks′ fields′ → n′ ≤ 3072
-    → length keys′ ≡ length keys → length marks′ ≡ length marks → length fields′ ≡ length fields → Running H unique keys₀ marks₀ fields₀ s′ keys′ marks′ fields′ n′
-running-on unique keys₀ marks₀ fields₀ s keys marks fields n H inv s′ keys′ marks′ fields′ n′ comes passes knows few a b c =
-    let r = inv .room in
-    let d = r .of-keys in
-    let e = r .of-marks in
-    let f = r .of-fields in
-    record { comes = comes; passes = passes; knows = knows; few = few; room = record { of-keys = omega arith; of-marks = omega arith; of-fields = omega arith }; long-keys = a ∙ inv .long-keys; long-marks = b ∙ inv .long-marks; long-fields = c ∙ inv .long-fields }
+pub running-start : (back : Bool) (unique t : ℕ) (j : List ℕ) (count : ℕ) (s keys marks fields : List ℕ) → Passes s unique → Room 3072 keys marks fields → Running back unique t j count s keys marks fields s keys marks fields 0 0
+running-start back unique t j count s keys marks fields passes room = record {
+  within = omega arith;
+  same = refl;
+  rest = rest-start back unique t j count s;
+  passes = passes;
+  knows = knows-none s keys marks fields;
+  few = omega arith;
+  room = room;
+  long-keys = refl;
+  long-marks = refl;
+  long-fields = refl;
+}
 
-pub running-start : (G : Type 0) (unique : ℕ) (s keys marks fields : List ℕ) → G → Passes s unique → Room 3072 keys marks fields → Running G unique keys marks fields s keys marks fields 0
-running-start G unique s keys marks fields comes passes room =
-    record { comes = comes; passes = passes; knows = knows-none s keys marks fields; few = omega arith; room = room; long-keys = refl; long-marks = refl; long-fields = refl }
+module _ (back : Bool) (unique t : ℕ) (j : List ℕ) (count : ℕ) (s₀ keys₀ marks₀ fields₀ s keys marks fields : List ℕ) (n past : ℕ)
+    (inv : Running back unique t j count s₀ keys₀ marks₀ fields₀ s keys marks fields n past) where
+  pub running-length : length s ≡ length s₀
+  running-length = inv .same
 
-module _ (G : Type 0) (unique : ℕ) (keys₀ marks₀ fields₀ s keys marks fields : List ℕ) (n : ℕ) (inv : Running G unique keys₀ marks₀ fields₀ s keys marks fields n) where
+  pub running-low : length s₀ ≤ 16777216 → length s ≤ 16777216
+  running-low l = let e = inv .same in omega arith
+
   pub running-knows : Knows s keys n marks fields
   running-knows = inv .knows
 
@@ -128,6 +142,13 @@ module _ (G : Type 0) (unique : ℕ) (keys₀ marks₀ fields₀ s keys marks fi
   pub running-fields : length fields ≡ length fields₀
   running-fields = inv .long-fields
 
+  module _ (end : count ≤ past) where
+    pub running-all : run.All ≡ runOf (runsBy back unique t j count s₀)
+    running-all = ap runOf (sym (run-end back unique t j count s₀ s past (inv .rest) end))
+
+    pub running-final : s ≡ streamRan (runsBy back unique t j count s₀)
+    running-final = ap streamRan (sym (run-end back unique t j count s₀ s past (inv .rest) end))
+
   module _ (keys′ marks′ fields′ : List ℕ) (a : length keys′ ≡ length keys) (b : length marks′ ≡ length marks) (c : length fields′ ≡ length fields) where
     pub filled-room : (n′ : ℕ) → n′ ≤ 3072 → Room n′ keys′ marks′ fields′
     filled-room n′ l =
@@ -137,93 +158,36 @@ module _ (G : Type 0) (unique : ℕ) (keys₀ marks₀ fields₀ s keys marks fi
         let f = r .of-fields in
         record { of-keys = omega arith; of-marks = omega arith; of-fields = omega arith }
 
-pub ruleset running-laws = (running-knows, running-few, running-room, running-keys, running-marks, running-fields, filled-room)
+  module _ (more : past < count) {i at : ℕ} (i-is : i ≡ turnOf back count past) (at-is : at ≡ entryAt i)
+      {d : Done} (d-is : d ≡ doneOf (stepOf back unique t (entryIn j at) s)) {x : List ℕ} (x-is : x ≡ streamAfter s (stepOf back unique t (entryIn j at) s)) where
+    pub running-stop : (m : ℕ) → d ≡ done.Stopped m → run.Stopped m i ≡ runOf (runsBy back unique t j count s₀)
+    running-stop m h = ap runOf (sym (run-stopped back unique t j count s₀ s past (inv .rest) more i-is at-is d-is x-is m h))
 
--- ---- forwards
-module _ (unique t : ℕ) (j : List ℕ) (count : ℕ) (s₀ s : List ℕ) (i at : ℕ) (keys₀ marks₀ fields₀ keys marks fields : List ℕ) (n : ℕ)
-    (inv : Running (Going unique t j count s₀ s i at) unique keys₀ marks₀ fields₀ s keys marks fields n) where
-  pub fore-length : length s ≡ length s₀
-  fore-length = inv .comes .2
+    pub running-left : (m : ℕ) → d ≡ done.Stopped m → x ≡ streamRan (runsBy back unique t j count s₀)
+    running-left m h = ap streamRan (sym (run-stopped back unique t j count s₀ s past (inv .rest) more i-is at-is d-is x-is m h))
 
-  pub fore-low : length s₀ ≤ 16777216 → length s ≤ 16777216
-  fore-low l = let e = inv .comes .2 in omega arith
+    pub running-again : d ≡ done.Made → Formed j count → i < count → (keys′ marks′ fields′ : List ℕ) (n′ : ℕ) → length keys′ ≡ length keys → length marks′ ≡ length marks → length fields′ ≡ length fields
+        → n′ ≤ 3072 → Knows s keys′ n′ marks′ fields′ → Running back unique t j count s₀ keys₀ marks₀ fields₀ x keys′ marks′ fields′ n′ (past + 1)
+    running-again h formed l keys′ marks′ fields′ n′ a b c few knows =
+        let k = step-kept unique keys′ n′ marks′ fields′ s t (entryIn j at) (inv .passes) knows j count i at formed l at-is refl back in
+        record {
+          within = omega arith;
+          same = run-same back unique t j count s₀ s past (inv .rest) more i-is at-is d-is x-is ∙ inv .same;
+          rest = run-on back unique t j count s₀ s past (inv .rest) more i-is at-is d-is x-is h;
+          passes = subst (λ (y : List ℕ). Passes y unique) (sym x-is) (k .0);
+          knows = subst (λ (y : List ℕ). Knows y keys′ n′ marks′ fields′) (sym x-is) (k .1);
+          few = few;
+          room = filled-room keys′ marks′ fields′ a b c 3072 (omega arith);
+          long-keys = a ∙ inv .long-keys;
+          long-marks = b ∙ inv .long-marks;
+          long-fields = c ∙ inv .long-fields;
+        }
 
-  module _ (more : i < count) where
-    pub fore-room : 16 + count * 28 ≤ length j → at + 28 ≤ length j
-    fore-room l = let e = inv .comes .1 in omega arith
+pub entry-room : (count len : ℕ) {i at : ℕ} → at ≡ entryAt i → i < count → 16 + count * 28 ≤ len → at + 28 ≤ len
+entry-room count len e l h = omega arith
 
-    pub fore-batch : 16 + count * 28 ≤ length j → (m : ℕ) → m ≤ count - i → at + m * 28 ≤ length j
-    fore-batch l m h = let e = inv .comes .1 in omega arith
-
-    module _ {d : Done} (d-is : d ≡ doneOf (makeOf unique t (entryIn j at) s)) {x : List ℕ} (x-is : x ≡ streamAfter s (makeOf unique t (entryIn j at) s)) where
-      pub fore-stop : (m : ℕ) → d ≡ done.Stopped m → run.Stopped m i ≡ runOf (forwards unique t j 0 count s₀)
-      fore-stop m h = going-stop unique t j count s₀ s i at (inv .comes) more d-is x-is m h
-
-      pub fore-left : (m : ℕ) → d ≡ done.Stopped m → x ≡ streamRan (forwards unique t j 0 count s₀)
-      fore-left m h = going-left unique t j count s₀ s i at (inv .comes) more d-is x-is m h
-
-      pub fore-again : d ≡ done.Made → Formed j count → (keys′ marks′ fields′ : List ℕ) (n′ : ℕ) → length keys′ ≡ length keys → length marks′ ≡ length marks → length fields′ ≡ length fields
-          → n′ ≤ 3072 → Knows s keys′ n′ marks′ fields′ → Running (Going unique t j count s₀ x (i + 1) (at + 28)) unique keys₀ marks₀ fields₀ x keys′ marks′ fields′ n′
-      fore-again h formed keys′ marks′ fields′ n′ a b c few knows =
-          let k = make-kept unique keys′ n′ marks′ fields′ s t (entryIn j at) (inv .passes) knows j count i at formed more (inv .comes .1) refl in
-          running-on unique keys₀ marks₀ fields₀ s keys marks fields n _ inv x keys′ marks′ fields′ n′ (going-again unique t j count s₀ s i at (inv .comes) more d-is x-is h)
-          (subst (λ (y : List ℕ). Passes y unique) (sym x-is) (k .0)) (subst (λ (y : List ℕ). Knows y keys′ n′ marks′ fields′) (sym x-is) (k .1)) few a b c
-
-  module _ (end : count ≤ i) where
-    pub fore-all : run.All ≡ runOf (forwards unique t j 0 count s₀)
-    fore-all = going-all unique t j count s₀ s i at (inv .comes) end
-
-    pub fore-final : s ≡ streamRan (forwards unique t j 0 count s₀)
-    fore-final = going-final unique t j count s₀ s i at (inv .comes) end
-
-pub ruleset fore-laws = (fore-length, fore-low, fore-room, fore-batch, fore-stop, fore-left, fore-all, fore-final, running-laws)
-
--- ---- backwards
-module _ (unique t : ℕ) (j : List ℕ) (count : ℕ) (s₀ s : List ℕ) (i at : ℕ) (keys₀ marks₀ fields₀ keys marks fields : List ℕ) (n : ℕ)
-    (inv : Running (Backing unique t j count s₀ s i at) unique keys₀ marks₀ fields₀ s keys marks fields n) where
-  pub back-length : length s ≡ length s₀
-  back-length = inv .comes .2
-
-  pub back-low : length s₀ ≤ 16777216 → length s ≤ 16777216
-  back-low l = let e = inv .comes .2 in omega arith
-
-  module _ (more : 0 < i) where
-    pub back-sub : 28 ≤ at
-    back-sub = let e = inv .comes .1 in omega arith
-
-    pub back-room : 16 + count * 28 ≤ length j → at - 28 + 28 ≤ length j
-    back-room l = let e = inv .comes .1 in let m = inv .comes .0 in omega arith
-
-    pub back-many : (m : ℕ) → m ≤ i → m * 28 ≤ at
-    back-many m h = let e = inv .comes .1 in omega arith
-
-    pub back-batch : 16 + count * 28 ≤ length j → (m : ℕ) → m ≤ i → at - m * 28 + m * 28 ≤ length j
-    back-batch l m h = let e = inv .comes .1 in let k = inv .comes .0 in omega arith
-
-    module _ {d : Done} (d-is : d ≡ doneOf (undoOf unique t (entryIn j (at - 28)) s)) {x : List ℕ} (x-is : x ≡ streamAfter s (undoOf unique t (entryIn j (at - 28)) s)) where
-      pub back-stop : (m : ℕ) → d ≡ done.Stopped m → run.Stopped m (i - 1) ≡ runOf (backwards unique t j count s₀)
-      back-stop m h = backing-stop unique t j count s₀ s i at (inv .comes) more d-is x-is m h
-
-      pub back-left : (m : ℕ) → d ≡ done.Stopped m → x ≡ streamRan (backwards unique t j count s₀)
-      back-left m h = backing-left unique t j count s₀ s i at (inv .comes) more d-is x-is m h
-
-      pub back-again : d ≡ done.Made → Formed j count → (keys′ marks′ fields′ : List ℕ) (n′ : ℕ) → length keys′ ≡ length keys → length marks′ ≡ length marks → length fields′ ≡ length fields
-          → n′ ≤ 3072 → Knows s keys′ n′ marks′ fields′ → Running (Backing unique t j count s₀ x (i - 1) (at - 28)) unique keys₀ marks₀ fields₀ x keys′ marks′ fields′ n′
-      back-again h formed keys′ marks′ fields′ n′ a b c few knows =
-          let e = inv .comes .1 in
-          let o = inv .comes .0 in
-          let k = undo-kept unique keys′ n′ marks′ fields′ s t (entryIn j (at - 28)) (inv .passes) knows j count (i - 1) (at - 28) formed (omega arith) (omega arith) refl in
-          running-on unique keys₀ marks₀ fields₀ s keys marks fields n _ inv x keys′ marks′ fields′ n′ (backing-again unique t j count s₀ s i at (inv .comes) more d-is x-is h)
-          (subst (λ (y : List ℕ). Passes y unique) (sym x-is) (k .0)) (subst (λ (y : List ℕ). Knows y keys′ n′ marks′ fields′) (sym x-is) (k .1)) few a b c
-
-  module _ (end : i ≤ 0) where
-    pub back-all : run.All ≡ runOf (backwards unique t j count s₀)
-    back-all = backing-all unique t j count s₀ s i at (inv .comes) end
-
-    pub back-final : s ≡ streamRan (backwards unique t j count s₀)
-    back-final = backing-final unique t j count s₀ s i at (inv .comes) end
-
-pub ruleset back-laws = (back-length, back-low, back-sub, back-room, back-many, back-batch, back-stop, back-left, back-all, back-final, running-laws)
+pub ruleset running-laws =
+    (running-length, running-low, running-knows, running-few, running-room, running-keys, running-marks, running-fields, running-all, running-final, filled-room, running-stop, running-left, entry-room)
 
 -- ---- the journal and the stream at first
 fit-well : (j : List ℕ) (e : ℕ) → fitsAt j e ≡ true → Well (entryIn j e)

@@ -15,20 +15,19 @@ use Rattle.workbook.specs.declared.Checked.{Checked}
 use Rattle.workbook.specs.declared.Checked.the-variants.{Right, Wrong}
 use Rattle.workbook.specs.Check.{checkedOf, onChecked}
 use Rattle.correction.specs.Correction.{Correction, refuses, writes, streamAfter}
-use Rattle.journal.specs.Entries.{countIn, entryIn, journalFits}
+use Rattle.journal.specs.Entries.{countIn, entryAt, entryIn, journalFits}
 use Rattle.journal.proofs.Entries.{fits-whole}
 use Rattle.replay_entry.specs.declared.Step.{Step}
 use Rattle.replay_entry.specs.declared.Step.the-variants as step
-use Rattle.replay_entry.specs.Steps.{makeOf, undoOf}
-use Rattle.replay_entry.specs.Parts.{stepIs, StepWithin}
+use Rattle.replay_entry.specs.Steps.{undoOf}
+use Rattle.replay_entry.specs.Parts.{stepOf, stepIs, StepWithin}
 use Rattle.replay_entry.specs.declared.Replayed.{Replayed}
 use Rattle.replay_entry.specs.declared.Replayed.the-variants as answer
 use Rattle.replay.specs.declared.Done.{Done}
 use Rattle.replay.specs.declared.Done.the-variants as done
 use Rattle.replay.specs.declared.Run.{Run}
-use Rattle.replay.specs.declared.Run.the-variants as run
 use Rattle.replay_entry.specs.Replay.{Ran, all, stopped, onStep, forwards, backwards, declined, ran, runs, replayIn, replayOf, streamRan, streamReplayed, answerRan, answerReplayed}
-use Rattle.replay.specs.Parts.{doneOf, runOf, runsBy, replayedBy}
+use Rattle.replay.specs.Parts.{doneOf, runOf, runsBy, turnOf, replayedBy}
 
 -- ---- one entry, by its step
 stop-is : (r : Step) (c : Correction) → stepIs r ≡ c → (n : ℕ) → r ≡ step.Stop n → refuses n 0 ≡ c
@@ -40,36 +39,20 @@ write-is r c is f p b h = ap stepIs (sym h) ∙ is
 pub write-room : (len : ℕ) {r : Step} (f : Field) (p b : ℕ) {w : ℕ} → StepWithin len r → r ≡ step.Write f p b → w ≡ widthOf f → p + w ≤ len
 write-room len f p b w h e = let z : StepWithin len (step.Write f p b) = subst (StepWithin len) h w in omega arith
 
-module _ (s j : List ℕ) (e unique t : ℕ) (r : Step) where
-  module _ (is : stepIs r ≡ makeOf unique t (entryIn j e) s) where
-    pub make-stop : (n : ℕ) → r ≡ step.Stop n → done.Stopped n ≡ doneOf (makeOf unique t (entryIn j e) s)
-    make-stop n h = ap doneOf (stop-is r _ is n h)
+module _ (s j : List ℕ) (e unique t : ℕ) (back : Bool) (r : Step) (is : stepIs r ≡ stepOf back unique t (entryIn j e) s) where
+  pub step-stop : (n : ℕ) → r ≡ step.Stop n → done.Stopped n ≡ doneOf (stepOf back unique t (entryIn j e) s)
+  step-stop n h = ap doneOf (stop-is r _ is n h)
 
-    pub make-kept : (n : ℕ) → r ≡ step.Stop n → s ≡ streamAfter s (makeOf unique t (entryIn j e) s)
-    make-kept n h = ap (streamAfter s) (stop-is r _ is n h)
+  pub step-kept : (n : ℕ) → r ≡ step.Stop n → s ≡ streamAfter s (stepOf back unique t (entryIn j e) s)
+  step-kept n h = ap (streamAfter s) (stop-is r _ is n h)
 
-    pub make-made : (f : Field) (p b : ℕ) → r ≡ step.Write f p b → done.Made ≡ doneOf (makeOf unique t (entryIn j e) s)
-    make-made f p b h = ap doneOf (write-is r _ is f p b h)
+  pub step-made : (f : Field) (p b : ℕ) → r ≡ step.Write f p b → done.Made ≡ doneOf (stepOf back unique t (entryIn j e) s)
+  step-made f p b h = ap doneOf (write-is r _ is f p b h)
 
-    pub make-wrote : (f : Field) (p b : ℕ) {w : ℕ} {x : List ℕ} → r ≡ step.Write f p b → w ≡ widthOf f → x ≡ sets s p (bytesOf w b) → x ≡ streamAfter s (makeOf unique t (entryIn j e) s)
-    make-wrote f p b h i k = k ∙ ap (λ (m : ℕ). sets s p (bytesOf m b)) i ∙ ap (streamAfter s) (write-is r _ is f p b h)
+  pub step-wrote : (f : Field) (p b : ℕ) {w : ℕ} {x : List ℕ} → r ≡ step.Write f p b → w ≡ widthOf f → x ≡ sets s p (bytesOf w b) → x ≡ streamAfter s (stepOf back unique t (entryIn j e) s)
+  step-wrote f p b h i k = k ∙ ap (λ (m : ℕ). sets s p (bytesOf m b)) i ∙ ap (streamAfter s) (write-is r _ is f p b h)
 
-  module _ (is : stepIs r ≡ undoOf unique t (entryIn j e) s) where
-    pub undo-stop : (n : ℕ) → r ≡ step.Stop n → done.Stopped n ≡ doneOf (undoOf unique t (entryIn j e) s)
-    undo-stop n h = ap doneOf (stop-is r _ is n h)
-
-    pub undo-kept : (n : ℕ) → r ≡ step.Stop n → s ≡ streamAfter s (undoOf unique t (entryIn j e) s)
-    undo-kept n h = ap (streamAfter s) (stop-is r _ is n h)
-
-    pub undo-made : (f : Field) (p b : ℕ) → r ≡ step.Write f p b → done.Made ≡ doneOf (undoOf unique t (entryIn j e) s)
-    undo-made f p b h = ap doneOf (write-is r _ is f p b h)
-
-    pub undo-wrote : (f : Field) (p b : ℕ) {w : ℕ} {x : List ℕ} → r ≡ step.Write f p b → w ≡ widthOf f → x ≡ sets s p (bytesOf w b) → x ≡ streamAfter s (undoOf unique t (entryIn j e) s)
-    undo-wrote f p b h i k = k ∙ ap (λ (m : ℕ). sets s p (bytesOf m b)) i ∙ ap (streamAfter s) (write-is r _ is f p b h)
-
-pub ruleset make-laws = (write-room, make-stop, make-kept, make-made, make-wrote)
-
-pub ruleset undo-laws = (write-room, undo-stop, undo-kept, undo-made, undo-wrote)
+pub ruleset step-laws = (write-room, step-stop, step-kept, step-made, step-wrote)
 
 -- ---- a step of a run
 stopped-by : (s : List ℕ) (i : ℕ) (k : List ℕ → Ran) (c : Correction) (n : ℕ) → done.Stopped n ≡ doneOf c → onStep s i c k ≡ stopped n i (streamAfter s c)
@@ -84,119 +67,64 @@ after-length : (s : List ℕ) (c : Correction) → length (streamAfter s c) ≡ 
 after-length s (refuses n o) = refl
 after-length s (writes f p b) = length-sets s p (bytesOf (widthOf f) b)
 
--- ---- forwards
-abbrev pub Going : ℕ → ℕ → List ℕ → ℕ → List ℕ → List ℕ → ℕ → ℕ → Type 0
-Going unique t j count s₀ s i at =
-    (i ≤ count) × (at ≡ 16 + i * 28) × (length s ≡ length s₀) × (forwards unique t j 0 count s₀ ≡ forwards unique t j i (count - i) s)
+-- ---- what is left of a run after so many entries
+pub turn-back : (back : Bool) (count past : ℕ) → back ≡ true → count - 1 - past ≡ turnOf back count past
+turn-back back count past h = rw h refl
 
-pub going-start : (unique t : ℕ) (j : List ℕ) (count : ℕ) (s₀ : List ℕ) → Going unique t j count s₀ s₀ 0 16
-going-start unique t j count s₀ = let e : count ≡ count - 0 = omega arith in (omega arith, omega arith, refl, ap (λ (n : ℕ). forwards unique t j 0 n s₀) e)
+pub turn-on : (back : Bool) (count past : ℕ) → back ≡ false → past ≡ turnOf back count past
+turn-on back count past h = rw h refl
 
-module _ (unique t : ℕ) (j : List ℕ) (count : ℕ) (s₀ s : List ℕ) (i at : ℕ) (inv : Going unique t j count s₀ s i at) where
-  module _ (more : i < count) where
+pub ruleset turn-laws = (turn-back, turn-on)
+
+abbrev pub restOf : Bool → ℕ → ℕ → List ℕ → ℕ → ℕ → List ℕ → Ran
+restOf true unique t j count past s = backwards unique t j (count - past) s
+restOf false unique t j count past s = forwards unique t j past (count - past) s
+
+pub rest-start : (back : Bool) (unique t : ℕ) (j : List ℕ) (count : ℕ) (s : List ℕ) → runsBy back unique t j count s ≡ restOf back unique t j count 0 s
+rest-start true unique t j count s = let e : count ≡ count - 0 = omega arith in ap (λ (n : ℕ). backwards unique t j n s) e
+rest-start false unique t j count s = let e : count ≡ count - 0 = omega arith in ap (λ (n : ℕ). forwards unique t j 0 n s) e
+
+rest-end : (back : Bool) (unique t : ℕ) (j : List ℕ) (count past : ℕ) (s : List ℕ) → count ≤ past → restOf back unique t j count past s ≡ all s
+unfolding forwards backwards
+rest-end true unique t j count past s end = let e : count - past ≡ 0 = omega arith in ap (λ (n : ℕ). backwards unique t j n s) e
+rest-end false unique t j count past s end = let e : count - past ≡ 0 = omega arith in ap (λ (n : ℕ). forwards unique t j past n s) e
+
+rest-step : (back : Bool) (unique t : ℕ) (j : List ℕ) (count past : ℕ) (s : List ℕ) → past < count
+    → restOf back unique t j count past s
+    ≡ onStep s (turnOf back count past) (stepOf back unique t (entryIn j (entryAt (turnOf back count past))) s) (λ r. restOf back unique t j count (past + 1) r)
+unfolding forwards backwards
+rest-step true unique t j count past s more =
+    let e : count - past ≡ suc (count - 1 - past) = omega arith in
+    let f : count - 1 - past ≡ count - (past + 1) = omega arith in
+    ap (λ (n : ℕ). backwards unique t j n s) e
+    ∙ ap (λ (n : ℕ). onStep s (count - 1 - past) (undoOf unique t (entryIn j (entryAt (count - 1 - past))) s) (λ r. backwards unique t j n r)) f
+rest-step false unique t j count past s more =
+    let e : count - past ≡ suc (count - (past + 1)) = omega arith in
+    ap (λ (n : ℕ). forwards unique t j past n s) e
+
+-- the run so far, and what is left of it
+module _ (back : Bool) (unique t : ℕ) (j : List ℕ) (count : ℕ) (s₀ s : List ℕ) (past : ℕ) (rest : runsBy back unique t j count s₀ ≡ restOf back unique t j count past s) where
+  pub run-end : count ≤ past → runsBy back unique t j count s₀ ≡ all s
+  run-end end = rest ∙ rest-end back unique t j count past s end
+
+  module _ (more : past < count) {i at : ℕ} (i-is : i ≡ turnOf back count past) (at-is : at ≡ entryAt i)
+      {d : Done} (d-is : d ≡ doneOf (stepOf back unique t (entryIn j at) s)) {x : List ℕ} (x-is : x ≡ streamAfter s (stepOf back unique t (entryIn j at) s)) where
     abbrev c : Correction
-    c = makeOf unique t (entryIn j at) s
+    c = stepOf back unique t (entryIn j at) s
 
-    next-is : forwards unique t j 0 count s₀ ≡ onStep s i c (λ r. forwards unique t j (i + 1) (count - (i + 1)) r)
-    unfolding forwards
+    next-is : runsBy back unique t j count s₀ ≡ onStep s i c (λ r. restOf back unique t j count (past + 1) r)
     next-is =
-        let e : count - i ≡ suc (count - (i + 1)) = omega arith in
-        inv .3 ∙ ap (λ (n : ℕ). forwards unique t j i n s) e ∙ ap (λ (k : ℕ). onStep s i (makeOf unique t (entryIn j k) s) (λ r. forwards unique t j (i + 1) (count - (i + 1)) r)) (sym (inv .1))
+        rest ∙ rest-step back unique t j count past s more
+        ∙ (λ z. onStep s (sym i-is z) (stepOf back unique t (entryIn j ((ap entryAt (sym i-is) ∙ sym at-is) z)) s) (λ r. restOf back unique t j count (past + 1) r))
 
-    module _ {d : Done} (d-is : d ≡ doneOf (makeOf unique t (entryIn j at) s)) {x : List ℕ} (x-is : x ≡ streamAfter s (makeOf unique t (entryIn j at) s)) where
-      stop-run : (n : ℕ) → d ≡ done.Stopped n → forwards unique t j 0 count s₀ ≡ stopped n i x
-      stop-run n h = next-is ∙ stopped-by s i _ c n (sym h ∙ d-is) ∙ ap (stopped n i) (sym x-is)
+    pub run-stopped : (n : ℕ) → d ≡ done.Stopped n → runsBy back unique t j count s₀ ≡ stopped n i x
+    run-stopped n h = next-is ∙ stopped-by s i _ c n (sym h ∙ d-is) ∙ ap (stopped n i) (sym x-is)
 
-      pub going-stop : (n : ℕ) → d ≡ done.Stopped n → run.Stopped n i ≡ runOf (forwards unique t j 0 count s₀)
-      going-stop n h = ap runOf (sym (stop-run n h))
+    pub run-on : d ≡ done.Made → runsBy back unique t j count s₀ ≡ restOf back unique t j count (past + 1) x
+    run-on h = next-is ∙ made-by s i _ c (sym h ∙ d-is) ∙ ap (restOf back unique t j count (past + 1)) (sym x-is)
 
-      pub going-left : (n : ℕ) → d ≡ done.Stopped n → x ≡ streamRan (forwards unique t j 0 count s₀)
-      going-left n h = ap streamRan (sym (stop-run n h))
-
-      pub going-same : length x ≡ length s₀
-      going-same = ap length x-is ∙ after-length s c ∙ inv .2
-
-      pub going-again : d ≡ done.Made → Going unique t j count s₀ x (i + 1) (at + 28)
-      going-again h =
-          let e = inv .1 in
-          (omega arith, omega arith, going-same, next-is ∙ made-by s i _ c (sym h ∙ d-is) ∙ ap (forwards unique t j (i + 1) (count - (i + 1))) (sym x-is))
-
-  module _ (end : count ≤ i) where
-    end-run : forwards unique t j 0 count s₀ ≡ all s
-    unfolding forwards
-    end-run = let l = inv .0 in let e : count - i ≡ 0 = omega arith in inv .3 ∙ ap (λ (n : ℕ). forwards unique t j i n s) e
-
-    pub going-all : run.All ≡ runOf (forwards unique t j 0 count s₀)
-    going-all = ap runOf (sym end-run)
-
-    pub going-final : s ≡ streamRan (forwards unique t j 0 count s₀)
-    going-final = ap streamRan (sym end-run)
-
--- ---- backwards
-abbrev pub Backing : ℕ → ℕ → List ℕ → ℕ → List ℕ → List ℕ → ℕ → ℕ → Type 0
-Backing unique t j count s₀ s n at =
-    (n ≤ count) × (at ≡ 16 + n * 28) × (length s ≡ length s₀) × (backwards unique t j count s₀ ≡ backwards unique t j n s)
-
-pub backing-start : (unique t : ℕ) (j : List ℕ) (count : ℕ) (s₀ : List ℕ) {c : ℕ} → c ≡ count → Backing unique t j count s₀ s₀ count (16 + c * 28)
-backing-start unique t j count s₀ e = (omega arith, omega arith, refl, refl)
-
-module _ (unique t : ℕ) (j : List ℕ) (count : ℕ) (s₀ s : List ℕ) (n at : ℕ) (inv : Backing unique t j count s₀ s n at) where
-  module _ (more : 0 < n) where
-    abbrev u : Correction
-    u = undoOf unique t (entryIn j (at - 28)) s
-
-    back-is : backwards unique t j count s₀ ≡ onStep s (n - 1) u (λ r. backwards unique t j (n - 1) r)
-    unfolding backwards
-    back-is =
-        let e : n ≡ suc (n - 1) = omega arith in
-        let f : 16 + (n - 1) * 28 ≡ at - 28 = let g = inv .1 in omega arith in
-        inv .3 ∙ ap (λ (k : ℕ). backwards unique t j k s) e ∙ ap (λ (k : ℕ). onStep s (n - 1) (undoOf unique t (entryIn j k) s) (λ r. backwards unique t j (n - 1) r)) f
-
-    module _ {d : Done} (d-is : d ≡ doneOf (undoOf unique t (entryIn j (at - 28)) s)) {x : List ℕ} (x-is : x ≡ streamAfter s (undoOf unique t (entryIn j (at - 28)) s)) where
-      stop-back : (m : ℕ) → d ≡ done.Stopped m → backwards unique t j count s₀ ≡ stopped m (n - 1) x
-      stop-back m h = back-is ∙ stopped-by s (n - 1) _ u m (sym h ∙ d-is) ∙ ap (stopped m (n - 1)) (sym x-is)
-
-      pub backing-stop : (m : ℕ) → d ≡ done.Stopped m → run.Stopped m (n - 1) ≡ runOf (backwards unique t j count s₀)
-      backing-stop m h = ap runOf (sym (stop-back m h))
-
-      pub backing-left : (m : ℕ) → d ≡ done.Stopped m → x ≡ streamRan (backwards unique t j count s₀)
-      backing-left m h = ap streamRan (sym (stop-back m h))
-
-      pub backing-same : length x ≡ length s₀
-      backing-same = ap length x-is ∙ after-length s u ∙ inv .2
-
-      pub backing-again : d ≡ done.Made → Backing unique t j count s₀ x (n - 1) (at - 28)
-      backing-again h =
-          let e = inv .1 in
-          let l = inv .0 in
-          (omega arith, omega arith, backing-same, back-is ∙ made-by s (n - 1) _ u (sym h ∙ d-is) ∙ ap (backwards unique t j (n - 1)) (sym x-is))
-
-  module _ (end : n ≤ 0) where
-    end-back : backwards unique t j count s₀ ≡ all s
-    unfolding backwards
-    end-back = let e : n ≡ 0 = omega arith in inv .3 ∙ ap (λ (k : ℕ). backwards unique t j k s) e
-
-    pub backing-all : run.All ≡ runOf (backwards unique t j count s₀)
-    backing-all = ap runOf (sym end-back)
-
-    pub backing-final : s ≡ streamRan (backwards unique t j count s₀)
-    backing-final = ap streamRan (sym end-back)
-
--- ---- either way
-module _ (unique t : ℕ) (j : List ℕ) (n : ℕ) (s : List ℕ) (b : Bool) where
-  pub back-run : {r : Run} → b ≡ true → r ≡ runOf (backwards unique t j n s) → r ≡ runOf (runsBy b unique t j n s)
-  back-run h e = rw h e
-
-  pub back-stream : {x : List ℕ} → b ≡ true → x ≡ streamRan (backwards unique t j n s) → x ≡ streamRan (runsBy b unique t j n s)
-  back-stream h e = rw h e
-
-  pub fore-run : {r : Run} → b ≡ false → r ≡ runOf (forwards unique t j 0 n s) → r ≡ runOf (runsBy b unique t j n s)
-  fore-run h e = rw h e
-
-  pub fore-stream : {x : List ℕ} → b ≡ false → x ≡ streamRan (forwards unique t j 0 n s) → x ≡ streamRan (runsBy b unique t j n s)
-  fore-stream h e = rw h e
-
-pub ruleset either-laws = (back-run, back-stream, fore-run, fore-stream)
+    pub run-same : length x ≡ length s
+    run-same = ap length x-is ∙ after-length s c
 
 pub by-run : (count : ℕ) {r x : Run} {y : Replayed} → r ≡ x → y ≡ replayedBy count x → y ≡ replayedBy count r
 by-run count e h = h ∙ ap (replayedBy count) (sym e)

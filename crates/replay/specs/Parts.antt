@@ -1,5 +1,5 @@
 -- What the contracts of the inner functions speak of.
-use Prim.Native.Nat.{ℕ, _<_}
+use Prim.Native.Nat.{ℕ, _-_, _<_}
 use mathlib.Core.Path.{_≡_}
 use mathlib.Core.Bool.{Bool, true, false}
 use mathlib.Core.List.{List}
@@ -42,6 +42,11 @@ runOf (stopped n i s) = run.Stopped n i
 abbrev pub runsBy : Bool → ℕ → ℕ → List ℕ → ℕ → List ℕ → Ran
 runsBy true unique t j n s = backwards unique t j n s
 runsBy false unique t j n s = forwards unique t j 0 n s
+
+-- the entry that comes after so many
+abbrev pub turnOf : Bool → ℕ → ℕ → ℕ
+turnOf true count done = count - 1 - done
+turnOf false count done = done
 
 abbrev pub replayedBy : ℕ → Run → Replayed
 replayedBy count run.All = answer.All count

@@ -1,17 +1,16 @@
 // Replay of a journal, forwards and backwards: one entry after the other, until one is refused. The addresses of many entries are looked up in one pass,
 // so that a forged journal can't drive the time up. The journal is not written.
 ghost use mathlib.Core.Path.{_≡_};
-ghost use Prim.Native.Nat.{_+_, _*_, _≤_, _<_};
+ghost use Prim.Native.Nat.{_+_, _-_, _*_, _≤_, _<_};
 ghost use lib.ListN.{length};
 ghost use Rattle.correction.specs.Parts.{AimWithin};
 ghost use Rattle.correction.specs.Correction.{streamAfter};
-ghost use Rattle.journal.specs.Entries.{countIn, entryIn};
-ghost use Rattle.replay_entry.specs.Steps.{makeOf, undoOf};
-ghost use Rattle.replay_entry.specs.Parts.{entryAimed};
-ghost use Rattle.replay_entry.specs.Replay.{forwards, backwards, replayIn, replayOf, streamRan, streamReplayed, answerReplayed};
+ghost use Rattle.journal.specs.Entries.{countIn, entryAt, entryIn};
+ghost use Rattle.replay_entry.specs.Parts.{entryAimed, stepOf};
+ghost use Rattle.replay_entry.specs.Replay.{replayIn, replayOf, streamRan, streamReplayed, answerReplayed};
 ghost use Rattle.address_lookup.specs.Table.{Room, Knows};
 ghost use Rattle.journal_claims.specs.Replayed.{Bytes};
-ghost use Rattle.replay.specs.Parts.{Passes, Formed, doneOf, runOf, runsBy, replayedBy};
+ghost use Rattle.replay.specs.Parts.{Passes, Formed, doneOf, runOf, runsBy, turnOf, replayedBy};
 use correction::Aim;
 use correction::Target;
 use replay_entry::Replayed;
@@ -56,52 +55,25 @@ fn entry_aim(
     }
 }
 
-fn make_entry(
+// The entry at `at` made again, or undone where `back` is true.
+fn take_entry(
     s: &mut [u8],
     j: &[u8],
     at: usize,
     unique: u32,
     sheets: usize,
+    back: bool,
     keys: &[u64],
     n: usize,
     marks: &[u8],
     fields: &[usize],
 ) -> Done
     requires { ⌜ (at + 28 ≤ length (now j)) × (length (now s) ≤ 16777216) × Room n (now keys) (now marks) (now fields) × Knows (now s) (now keys) n (now marks) (now fields) ⌝ }
-    ensures { λ r. ⌜ r ≡ doneOf (makeOf unique sheets (entryIn (now (j .entry)) at) (now (s .entry))) ⌝ }
-    ensures { λ r. ⌜ now (s .exit) ≡ streamAfter (now (s .entry)) (makeOf unique sheets (entryIn (now (j .entry)) at) (now (s .entry))) ⌝ }
+    ensures { λ r. ⌜ r ≡ doneOf (stepOf back unique sheets (entryIn (now (j .entry)) at) (now (s .entry))) ⌝ }
+    ensures { λ r. ⌜ now (s .exit) ≡ streamAfter (now (s .entry)) (stepOf back unique sheets (entryIn (now (j .entry)) at) (now (s .entry))) ⌝ }
 {
     let aim = entry_aim(&s[..], j, at, unique, sheets, keys, n, marks, fields);
-    match replay_entry::make_aimed(&s[..], j, at, unique, sheets, aim) {
-        Step::Stop(number) => Done::Stopped(number),
-        Step::Write {
-            kind,
-            field,
-            number,
-        } => {
-            bytes::store(s, field, value::width_of(kind), number);
-            Done::Made
-        }
-    }
-}
-
-fn undo_entry(
-    s: &mut [u8],
-    j: &[u8],
-    at: usize,
-    unique: u32,
-    sheets: usize,
-    keys: &[u64],
-    n: usize,
-    marks: &[u8],
-    fields: &[usize],
-) -> Done
-    requires { ⌜ (at + 28 ≤ length (now j)) × (length (now s) ≤ 16777216) × Room n (now keys) (now marks) (now fields) × Knows (now s) (now keys) n (now marks) (now fields) ⌝ }
-    ensures { λ r. ⌜ r ≡ doneOf (undoOf unique sheets (entryIn (now (j .entry)) at) (now (s .entry))) ⌝ }
-    ensures { λ r. ⌜ now (s .exit) ≡ streamAfter (now (s .entry)) (undoOf unique sheets (entryIn (now (j .entry)) at) (now (s .entry))) ⌝ }
-{
-    let aim = entry_aim(&s[..], j, at, unique, sheets, keys, n, marks, fields);
-    match replay_entry::undo_aimed(&s[..], j, at, unique, sheets, aim) {
+    match replay_entry::entry_step(&s[..], j, at, unique, sheets, aim, back) {
         Step::Stop(number) => Done::Stopped(number),
         Step::Write {
             kind,
@@ -125,80 +97,39 @@ fn batch(left: u32) -> usize
     3072
 }
 
-// The addresses of so many entries from `from` on, where that is due; n have been looked up before.
+// Where so many entries stand that come next, after `done` of them.
+fn batch_start(back: bool, count: u32, done: u32, many: usize) -> usize
+    requires { ⌜ (done ≤ count) × (many ≤ count - done) ⌝ }
+    ensures { λ r. ⌜ r + many * 28 ≤ 16 + count * 28 ⌝ }
+{
+    if back {
+        return 16 + (bytes::u32_as_usize(count - done) - many) * 28;
+    }
+    16 + bytes::u32_as_usize(done) * 28
+}
+
+// The addresses of the entries that come next, where that is due; n have been looked up before.
 fn refill(
     s: &[u8],
     j: &[u8],
     due: bool,
-    from: usize,
-    many: usize,
+    back: bool,
+    count: u32,
+    done: u32,
     keys: &mut [u64],
     n: usize,
     marks: &mut [u8],
     fields: &mut [usize],
 ) -> usize
-    requires { ⌜ (length (now s) ≤ 16777216) × (from + many * 28 ≤ length (now j)) × (many ≤ 3072) × Room 3072 (now keys) (now marks) (now fields) × (n ≤ 3072) × Knows (now s) (now keys) n (now marks) (now fields) ⌝ }
+    requires { ⌜ (length (now s) ≤ 16777216) × (16 + count * 28 ≤ length (now j)) × (done ≤ count) × Room 3072 (now keys) (now marks) (now fields) × (n ≤ 3072) × Knows (now s) (now keys) n (now marks) (now fields) ⌝ }
     ensures { λ r. ⌜ (r ≤ 3072) × Knows (now (s .entry)) (now (keys .exit)) r (now (marks .exit)) (now (fields .exit)) ⌝ }
 {
     if due {
+        let many = batch(count - done);
+        let from = batch_start(back, count, done, many);
         return address_lookup::look_up(s, j, from, many, keys, marks, fields);
     }
     n
-}
-
-// ---- all entries
-fn run_forwards(
-    s: &mut [u8],
-    j: &[u8],
-    count: u32,
-    unique: u32,
-    sheets: usize,
-    keys: &mut [u64],
-    marks: &mut [u8],
-    fields: &mut [usize],
-) -> Run
-    requires { ⌜ (16 + count * 28 ≤ length (now j)) × (length (now s) ≤ 16777216) × Room 3072 (now keys) (now marks) (now fields) × Passes (now s) unique × Formed (now j) count ⌝ }
-    ensures { λ r. ⌜ r ≡ runOf (forwards unique sheets (now (j .entry)) 0 count (now (s .entry))) ⌝ }
-    ensures { λ r. ⌜ now (s .exit) ≡ streamRan (forwards unique sheets (now (j .entry)) 0 count (now (s .entry))) ⌝ }
-{
-    let mut i: u32 = 0;
-    let mut at: usize = 16;
-    let mut n: usize = 0;
-    let mut left: u32 = 0;
-    while i < count {
-        n = refill(
-            &s[..],
-            j,
-            left == 0,
-            at,
-            batch(count - i),
-            keys,
-            n,
-            marks,
-            fields,
-        );
-        left = fewer(left);
-        match make_entry(
-            s,
-            j,
-            at,
-            unique,
-            sheets,
-            &keys[..],
-            n,
-            &marks[..],
-            &fields[..],
-        ) {
-            Done::Stopped(number) => {
-                return Run::Stopped { number, entry: i };
-            }
-            Done::Made => {
-                i += 1;
-                at += 28;
-            }
-        }
-    }
-    Run::All
 }
 
 // How many more entries the batch serves.
@@ -209,46 +140,65 @@ fn fewer(left: u32) -> u32 {
     left - 1
 }
 
-fn run_backwards(
+// ---- all entries
+// The entry that comes after `done` of them: from the first on, or from the last on where `back` is true.
+fn turn(back: bool, count: u32, done: u32) -> u32
+    requires { ⌜ done < count ⌝ }
+    ensures { λ r. ⌜ r ≡ turnOf back count done ⌝ }
+    ensures { λ r. ⌜ r < count ⌝ }
+{
+    if back {
+        return count - 1 - done;
+    }
+    done
+}
+
+fn entry_place(i: u32) -> usize
+    ensures { λ r. ⌜ r ≡ entryAt i ⌝ }
+{
+    16 + bytes::u32_as_usize(i) * 28
+}
+
+fn run_with(
     s: &mut [u8],
     j: &[u8],
     count: u32,
     unique: u32,
     sheets: usize,
+    back: bool,
     keys: &mut [u64],
     marks: &mut [u8],
     fields: &mut [usize],
 ) -> Run
     requires { ⌜ (16 + count * 28 ≤ length (now j)) × (length (now s) ≤ 16777216) × Room 3072 (now keys) (now marks) (now fields) × Passes (now s) unique × Formed (now j) count ⌝ }
-    ensures { λ r. ⌜ r ≡ runOf (backwards unique sheets (now (j .entry)) count (now (s .entry))) ⌝ }
-    ensures { λ r. ⌜ now (s .exit) ≡ streamRan (backwards unique sheets (now (j .entry)) count (now (s .entry))) ⌝ }
+    ensures { λ r. ⌜ r ≡ runOf (runsBy back unique sheets (now (j .entry)) count (now (s .entry))) ⌝ }
+    ensures { λ r. ⌜ now (s .exit) ≡ streamRan (runsBy back unique sheets (now (j .entry)) count (now (s .entry))) ⌝ }
 {
-    let mut i: u32 = count;
-    let mut at: usize = 16 + bytes::u32_as_usize(count) * 28;
+    let mut done: u32 = 0;
     let mut n: usize = 0;
     let mut left: u32 = 0;
-    while 0 < i {
-        let many = batch(i);
+    while done < count {
         n = refill(
             &s[..],
             j,
             left == 0,
-            at - many * 28,
-            many,
+            back,
+            count,
+            done,
             keys,
             n,
             marks,
             fields,
         );
         left = fewer(left);
-        i -= 1;
-        at -= 28;
-        match undo_entry(
+        let i = turn(back, count, done);
+        match take_entry(
             s,
             j,
-            at,
+            entry_place(i),
             unique,
             sheets,
+            back,
             &keys[..],
             n,
             &marks[..],
@@ -257,7 +207,9 @@ fn run_backwards(
             Done::Stopped(number) => {
                 return Run::Stopped { number, entry: i };
             }
-            Done::Made => {}
+            Done::Made => {
+                done += 1;
+            }
         }
     }
     Run::All
@@ -271,24 +223,13 @@ fn run_batches(s: &mut [u8], j: &[u8], count: u32, unique: u32, sheets: usize, b
     let mut keys = [0u64; 3072];
     let mut marks = [0u8; 3072];
     let mut fields = [0usize; 3072];
-    if back {
-        return run_backwards(
-            s,
-            j,
-            count,
-            unique,
-            sheets,
-            &mut keys,
-            &mut marks,
-            &mut fields,
-        );
-    }
-    run_forwards(
+    run_with(
         s,
         j,
         count,
         unique,
         sheets,
+        back,
         &mut keys,
         &mut marks,
         &mut fields,

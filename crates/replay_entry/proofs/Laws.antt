@@ -23,8 +23,8 @@ use Rattle.correction.specs.Correction.{Correction, refuses, writes}
 use Rattle.journal.specs.Entries.{Entry, entryIn}
 use Rattle.replay_entry.specs.declared.Step.{Step}
 use Rattle.replay_entry.specs.declared.Step.the-variants as step
-use Rattle.replay_entry.specs.Steps.{firstBytes, entryPlan, holds, passesIn, onMake, onUndo, makeAt, undoAt, makeOf, undoOf}
-use Rattle.replay_entry.specs.Parts.{entryAimed, entryPlanned, stepIs, StepWithin}
+use Rattle.replay_entry.specs.Steps.{firstBytes, entryPlan, holds, passesIn, onMake, onUndo, makeAt, undoAt}
+use Rattle.replay_entry.specs.Parts.{entryAimed, entryPlanned, stepOf, stepIs, StepWithin}
 
 -- ---- the plan
 module _ (f : Field) (kind new unique : ℕ) where
@@ -163,33 +163,27 @@ pub plan-read : (j : List ℕ) (e : ℕ) (f : Field) (unique : ℕ) {k n : ℕ} 
 unfolding entryIn
 plan-read j e f unique h i q = q ∙ ap₂ (λ (a b : ℕ). entryPlan f a b unique) h i
 
-module _ (s j : List ℕ) (e unique t : ℕ) {a : Aim} (is : a ≡ entryAimed unique t (entryIn j e) s) where
+module _ (s j : List ℕ) (e unique t : ℕ) (back : Bool) {a : Aim} (is : a ≡ entryAimed unique t (entryIn j e) s) where
   abbrev x : Entry
   x = entryIn j e
 
-  by-make : (y : Aim) → a ≡ y → makeAt s x y ≡ makeOf unique t x s
-  by-make y h = ap (makeAt s x) (sym h ∙ is)
+  pub step-refused : (n o : ℕ) → a ≡ aim.Refused n o → refuses n 0 ≡ stepOf back unique t x s
+  step-refused n o h = go back
+    where
+      go : (b : Bool) → refuses n 0 ≡ stepOf b unique t x s
+      go true = ap (undoAt s x) (sym h ∙ is)
+      go false = ap (makeAt s x) (sym h ∙ is)
 
-  by-undo : (y : Aim) → a ≡ y → undoAt s x y ≡ undoOf unique t x s
-  by-undo y h = ap (undoAt s x) (sym h ∙ is)
-
-  module _ (n o : ℕ) (h : a ≡ aim.Refused n o) where
-    pub make-refused : refuses n 0 ≡ makeOf unique t x s
-    make-refused = by-make (aim.Refused n o) h
-
-    pub undo-refused : refuses n 0 ≡ undoOf unique t x s
-    undo-refused = by-undo (aim.Refused n o) h
-
-  module _ (f : Field) (p u : ℕ) (h : a ≡ aim.At f p u) {y : Plan} (y-is : y ≡ entryPlanned f x u) {w o : ℕ} (w-is : w ≡ u16At j (e + 10)) (o-is : o ≡ u64At j (e + 12)) where
-    pub make-one : {b : Bool} (r : Step) → b ≡ holds s f p w o → stepIs r ≡ onMake f p b y → stepIs r ≡ makeOf unique t x s
+  module _ (f : Field) (p u : ℕ) (h : a ≡ aim.At f p u) {y : Plan} (y-is : y ≡ entryPlanned f x u) {w o : ℕ} (w-is : w ≡ u16At j (e + 10)) (o-is : o ≡ u64At j (e + 12)) (r : Step) where
+    pub step-make : back ≡ false → {b : Bool} → b ≡ holds s f p w o → stepIs r ≡ onMake f p b y → stepIs r ≡ stepOf back unique t x s
     unfolding entryIn
-    make-one r i k = k ∙ ap₂ (λ (m : Bool) (z : Plan). onMake f p m z) (i ∙ ap₂ (λ (c d : ℕ). holds s f p c d) w-is o-is) y-is ∙ by-make (aim.At f p u) h
+    step-make l i k = rw l (k ∙ ap₂ (λ (m : Bool) (z : Plan). onMake f p m z) (i ∙ ap₂ (λ (c d : ℕ). holds s f p c d) w-is o-is) y-is ∙ ap (makeAt s x) (sym h ∙ is))
 
-    pub undo-one : (r : Step) → stepIs r ≡ onUndo f p (holds s f p w) (passesIn f u o) o y → stepIs r ≡ undoOf unique t x s
+    pub step-undo : back ≡ true → stepIs r ≡ onUndo f p (holds s f p w) (passesIn f u o) o y → stepIs r ≡ stepOf back unique t x s
     unfolding entryIn
-    undo-one r k = k ∙ (λ z. onUndo f p (holds s f p (w-is z)) (passesIn f u (o-is z)) (o-is z) (y-is z)) ∙ by-undo (aim.At f p u) h
+    step-undo l k = rw l (k ∙ (λ z. onUndo f p (holds s f p (w-is z)) (passesIn f u (o-is z)) (o-is z) (y-is z)) ∙ ap (undoAt s x) (sym h ∙ is))
 
-pub ruleset step-laws = (make-refused, undo-refused, make-one, undo-one)
+pub ruleset step-laws = (step-refused, step-make, step-undo)
 
 -- ---- the value field lies within the stream
 abbrev Within : ℕ → Correction → Type 0

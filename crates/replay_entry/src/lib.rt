@@ -5,8 +5,8 @@ ghost use lib.ListN.{length};
 ghost use Rattle.value.specs.Value.{widthOf};
 ghost use Rattle.correction.specs.Parts.{AimWithin};
 ghost use Rattle.journal.specs.Entries.{entryIn};
-ghost use Rattle.replay_entry.specs.Steps.{firstBytes, entryPlan, holds, passesIn, onMake, onUndo, makeOf, undoOf};
-ghost use Rattle.replay_entry.specs.Parts.{entryAimed, entryPlanned, stepIs, StepWithin};
+ghost use Rattle.replay_entry.specs.Steps.{firstBytes, entryPlan, holds, passesIn, onMake, onUndo};
+ghost use Rattle.replay_entry.specs.Parts.{entryAimed, entryPlanned, stepOf, stepIs, StepWithin};
 use correction::Aim;
 use new_value::Plan;
 use value::Field;
@@ -190,11 +190,19 @@ fn plan_at(j: &[u8], at: usize, kind: Field, unique: u32) -> Plan
     entry_plan(kind, k, new, unique)
 }
 
-// The entry at `at` made again, where `aim` is the cell that it names.
+// The entry at `at` made again, or undone where `back` is true; `aim` is the cell that it names.
 // Only `replay` calls it, after the check, for an entry that lies in the journal, with its cell.
-pub fn make_aimed(s: &[u8], j: &[u8], at: usize, unique: u32, sheets: usize, aim: Aim) -> Step
+pub fn entry_step(
+    s: &[u8],
+    j: &[u8],
+    at: usize,
+    unique: u32,
+    sheets: usize,
+    aim: Aim,
+    back: bool,
+) -> Step
     requires { ⌜ (at + 28 ≤ length (now j)) × (aim ≡ entryAimed unique sheets (entryIn (now j) at) (now s)) × AimWithin (length (now s)) aim ⌝ }
-    ensures { λ r. ⌜ stepIs r ≡ makeOf unique sheets (entryIn (now (j .entry)) at) (now (s .entry)) ⌝ }
+    ensures { λ r. ⌜ stepIs r ≡ stepOf back unique sheets (entryIn (now (j .entry)) at) (now (s .entry)) ⌝ }
     ensures { λ r. ⌜ StepWithin (length (now (s .entry))) r ⌝ }
 {
     match aim {
@@ -207,30 +215,11 @@ pub fn make_aimed(s: &[u8], j: &[u8], at: usize, unique: u32, sheets: usize, aim
             let plan = plan_at(j, at, kind, u);
             let width = bytes::u16_at(j, at + 10);
             let old = bytes::u64_at(j, at + 12);
+            if back {
+                return on_undo(s, kind, field, width, old, u, plan);
+            }
             let there = holds_number(s, kind, field, width, old);
             on_make(kind, field, there, plan)
-        }
-    }
-}
-
-// The entry undone, where `aim` is the cell that it names.
-// Only `replay` calls it, after the check, for an entry that lies in the journal, with its cell.
-pub fn undo_aimed(s: &[u8], j: &[u8], at: usize, unique: u32, sheets: usize, aim: Aim) -> Step
-    requires { ⌜ (at + 28 ≤ length (now j)) × (aim ≡ entryAimed unique sheets (entryIn (now j) at) (now s)) × AimWithin (length (now s)) aim ⌝ }
-    ensures { λ r. ⌜ stepIs r ≡ undoOf unique sheets (entryIn (now (j .entry)) at) (now (s .entry)) ⌝ }
-    ensures { λ r. ⌜ StepWithin (length (now (s .entry))) r ⌝ }
-{
-    match aim {
-        Aim::Refused { number, offset: _ } => Step::Stop(number),
-        Aim::At {
-            kind,
-            field,
-            unique: u,
-        } => {
-            let plan = plan_at(j, at, kind, u);
-            let width = bytes::u16_at(j, at + 10);
-            let old = bytes::u64_at(j, at + 12);
-            on_undo(s, kind, field, width, old, u, plan)
         }
     }
 }

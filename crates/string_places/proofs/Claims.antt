@@ -28,11 +28,12 @@ use Rattle.workbook.proofs.Laws.{short}
 use Rattle.reading.specs.Reading.{stringsAt}
 use Rattle.fetch.specs.Strings.{bufferSeen}
 use Rattle.fetch.specs.Fetch.{answerIn, answerOf, bufferIn, bufferAfter}
-use Rattle.fetch.proofs.Laws.{checked-globals, strings-none, strings-some}
+use Rattle.fetch.specs.Parts.{TableAt}
+use Rattle.fetch.proofs.Laws.{nth-there, nth-past, checked-globals, strings-none, strings-some}
 use Rattle.string_places.specs.declared.Filled.{Filled}
 use Rattle.string_places.specs.declared.Filled.the-variants.{Strings, Refused}
 use Rattle.string_places.specs.Places.{numbersOf, unused, placesAt, filledOf, tableOf, fillOf, tableAfter, onSegment, stringBy, fetchedBy, throughOf, bufferThrough}
-use Rattle.string_places.specs.Parts.{Segment, countOf, TableAt}
+use Rattle.string_places.specs.Parts.{Segment, countOf}
 use Rattle.string_places.specs.Claims.{FetchesAsPlain}
 use Rattle.string_places.proofs.Standing.{segment-of, string-head}
 use Rattle.string_places.proofs.Filling.{length-numbers, places-none, places-some, first-segment, counted}
@@ -51,19 +52,11 @@ numbers-at (d ∷ l) r (suc i) h =
     let e : 2 * suc i + 1 ≡ suc (suc (2 * i + 1)) = omega arith in
     (ap (λ (m : ℕ). getD (numbersOf (d ∷ l) ++ r) m 0) (twice-suc i) ∙ k .0, ap (λ (m : ℕ). getD (numbersOf (d ∷ l) ++ r) m 0) e ∙ k .1)
 
--- ---- the n-th of a list that was mapped
-module _ {A B C : Type 0} (g : A → B) (f : B → C) (d : C) where
-  nth-there : (l : List A) (i : ℕ) → i < length l → (a : A) → f (g (getD l i a)) ≡ nth (map g l) i f d
-  unfolding nth
-  nth-there [] i h a = absurd (omega arith)
-  nth-there (x ∷ l) zero h a = refl
-  nth-there (x ∷ l) (suc i) h a = nth-there l i (omega arith) a
-
-  nth-past : (l : List A) (i : ℕ) → length l ≤ i → d ≡ nth (map g l) i f d
-  unfolding nth
-  nth-past [] i h = refl
-  nth-past (x ∷ l) zero h = absurd (omega arith)
-  nth-past (x ∷ l) (suc i) h = nth-past l i (omega arith)
+nth-map : {A B C : Type 0} (g : A → B) (f : B → C) (d : C) (l : List A) (i : ℕ) → nth l i (λ x. f (g x)) d ≡ nth (map g l) i f d
+unfolding nth
+nth-map g f d [] i = refl
+nth-map g f d (x ∷ l) zero = refl
+nth-map g f d (x ∷ l) (suc i) = nth-map g f d l i
 
 -- what f says of the units that were read; d where none were
 abbrev onUnits : {X : Type 0} → (List ℕ → X) → X → Got (List ℕ) → X
@@ -143,9 +136,9 @@ module _ (s : List ℕ) (p n : ℕ) (told : TableAt s p n) (small : length s ≤
   same-units : {X : Type 0} (f : List ℕ → X) (d : X) (i : ℕ) → onUnits f d (stringBy s table i) ≡ nth (stringsAt s p) i f d
   same-units f d i = pick-by (λ (x : Unit {0}). onUnits f d (stringBy s table i) ≡ nth (map (unitsAt s) places) i f d) (ltb i (length places)) {x = tt} {y = tt}
       (λ t. let l = ltb-true i (length places) t in
-      ap (onUnits f d) (by-there i l) ∙ units-there f d (stringAt s (getD places i nowhere)) (at-place i l .1) ∙ nth-there (unitsAt s) f d places i l nowhere)
+      ap (onUnits f d) (by-there i l) ∙ units-there f d (stringAt s (getD places i nowhere)) (at-place i l .1) ∙ nth-there (λ c. f (unitsAt s c)) d places i l nowhere ∙ nth-map (unitsAt s) f d places i)
       (λ t. let l = ltb-false i (length places) t in
-      ap (onUnits f d) (by-past i l) ∙ nth-past (unitsAt s) f d places i l)
+      ap (onUnits f d) (by-past i l) ∙ nth-past (λ c. f (unitsAt s c)) d places i l ∙ nth-map (unitsAt s) f d places i)
       ∙ ap (λ (x : List (List ℕ)). nth x i f d) (sym strings-are)
 
 fetched-units : (n : ℕ) (x : Got (List ℕ)) → fetchedBy n x ≡ onUnits (fetchedOf n) (fetched.Refused 11 0) x

@@ -19,11 +19,12 @@ use Rattle.globals.proofs.Table.{Stands, TableTold, table-told}
 use Rattle.workbook.specs.declared.Checked.{Checked}
 use Rattle.workbook.specs.declared.Checked.the-variants.{Right, Wrong}
 use Rattle.workbook.specs.Check.{checkedOf, onChecked}
+use Rattle.fetch.specs.Parts.{TableAt}
 use Rattle.fetch.proofs.Laws.{checked-globals}
 use Rattle.string_places.specs.declared.Filled.{Filled}
 use Rattle.string_places.specs.declared.Filled.the-variants.{Strings, Refused}
 use Rattle.string_places.specs.Places.{numbersOf, unused, placesAt, filledOf, tableOf, fillOf, tableAfter}
-use Rattle.string_places.specs.Parts.{Segment, countOf, TableAt}
+use Rattle.string_places.specs.Parts.{Segment, countOf}
 use Rattle.string_places.proofs.Standing.{sst-holds}
 
 pub length-numbers : (l : List Cursor) → length (numbersOf l) ≡ 2 * length l

@@ -1,11 +1,9 @@
 -- What the contracts of the inner functions speak of.
 use Prim.Native.Nat.{ℕ, _+_, _≤_}
 use lib.ListN.{set}
-use mathlib.Core.Logic.{_⊎_}
 use Rattle.segments.specs.Segments.{Got, got, refused}
 use lib.Dec.{eqb}
 use Rattle.steps.specs.Choice.{pick}
-use Rattle.globals.proofs.Table.{Stands}
 use mathlib.Core.Path.{_≡_}
 use mathlib.Core.List.{List}
 use mathlib.Core.Bool.{true}
@@ -30,7 +28,3 @@ withEntry t j (refused n o) = t
 -- how many strings there are, of what the check gave: its unique count is lent where the stream has no SST
 unfoldable pub countOf : ℕ → ℕ → ℕ
 countOf table unique = pick (eqb table 0) 0 unique
-
--- an SST of n strings stands at p; p is 0 where there is none
-abbrev pub TableAt : List ℕ → ℕ → ℕ → Type 0
-TableAt s p n = ((p ≡ 0) × (n ≡ 0)) ⊎ Stands s p n

@@ -1,31 +1,31 @@
 -- Chunk by chunk. Assumes nothing.
 use Prim.Native.Nat.{ℕ, zero, suc, _+_, _-_, _*_, _/_, _≤_, _<_}
 use mathlib.Core.Path.{_≡_, refl, sym, ap, ap₂, _∙_, subst}
-use mathlib.Core.List.{List, [], _∷_, _++_}
+use mathlib.Core.List.{List, [], _++_, append-assoc}
 use native.Mathlib.Omega.{arith}
 use native.Mathlib.Nat.{div-lt-iff-lt-mul}
-use lib.ListN.{length, length-append}
+use lib.ListN.{length}
 use Rattle.steps.specs.Choice.{pick}
 use Rattle.segments.specs.declared.Cursor.{Cursor}
 use Rattle.segments.specs.declared.Moved.{Moved}
-use Rattle.segments.specs.Segments.{Got, got, refused, then, push}
+use Rattle.segments.specs.Segments.{Got, got, refused}
 use Rattle.segments.specs.Parts.{Inside, ends, Passes}
-use Rattle.strings.specs.Table.{strings, stringAt, nextPlace}
+use Rattle.segments.proofs.Local.{refused-not}
+use Rattle.strings.specs.Table.{strings}
 use Rattle.strings.proofs.Laws.{strings-inside}
-use Rattle.table_texts.specs.Texts.{Text, kept}
-use Rattle.table_texts.specs.Written.{piecesOf}
+use Rattle.table_texts.specs.Texts.{Text, theText, kept}
+use Rattle.table_texts.specs.Written.{Piece, piecesOf}
 use Rattle.table_writer.specs.declared.Out.{Out}
-use Rattle.table_writer.specs.Writing.{Wrote, state, wrote, Tidy, Long, textsFrom}
-use Rattle.table_writer.proofs.Parts.{tidy-after}
-use Rattle.table_writer.proofs.Many.{wrote-length}
+use Rattle.table_writer.specs.Writing.{Wrote, state, wrote, Tidy, Long, textsFrom, nextText, markedPieces}
+use Rattle.table_writer.proofs.Parts.{wrote-append, long-left, long-right, tidy-after}
+use Rattle.table_writer.proofs.Many.{kept-pieces, next-by, wrote-length}
 use Rattle.table_size.specs.declared.Span.{Span}
 use Rattle.table_size.specs.Sizing.{sized, Counted}
 use Rattle.table_size.proofs.Counting.{counted-by}
-use Rattle.table_claims.proofs.Claims.{chunks, chunk-sized, chunk-wrote, chunk-long, chunk-long-2}
+use Rattle.table_size.proofs.Laws.{sized-append}
 use Rattle.new_stream.specs.Entries.{entriesOf}
 use Rattle.new_stream.specs.Compact.{textsIn, uses, usedBelow}
 use Rattle.new_table.specs.NewTable.{marksFrom}
-use Rattle.new_table.proofs.Marks.{marks-length}
 use Rattle.flags.specs.Flags.{flagAt, flagsFrom, setBelow}
 use Rattle.flags.proofs.Laws.{set-most}
 use Rattle.used_strings.specs.Marked.{Flagged}
@@ -98,102 +98,74 @@ module _ (l : List ℕ) (n i r : ℕ) (g : Tallied l n i r) where
 
 pub ruleset tally-laws = (tally-start, tally-word, tally-add, tally-flag, tally-one, tally-next, tally-done)
 
-marks-append : (l : List ℕ) (i a b : ℕ) → marksFrom l i (a + b) ≡ marksFrom l i a ++ marksFrom l (i + a) b
-unfolding marksFrom
-marks-append l i zero b = let x : 0 + b ≡ b = omega arith in let y : i ≡ i + 0 = omega arith in ap₂ (λ (k j : ℕ). marksFrom l j k) x y
-marks-append l i (suc a) b =
-    let x : suc a + b ≡ suc (a + b) = omega arith in
-    let y : i + 1 + a ≡ i + suc a = omega arith in
-    ap (marksFrom l i) x ∙ ap (λ (r : List ℕ). pick (uses l i) 1 0 ∷ r) (marks-append l (i + 1) a b ∙ ap (λ (j : ℕ). marksFrom l (i + 1) a ++ marksFrom l j b) y)
+-- ---- k strings from c on, which end at d, then m others: n together, of which the first has the index base, and the one after the k the index j
+passes-by : {A B : Type 0} (x : Got A) (y : Got B) → ends x ≡ ends y → Passes y → Passes x
+passes-by (got v c) y e h = tt
+passes-by (refused n o) (got v c) e h = absurd (refused-not e)
+passes-by (refused n o) (refused a b) e h = h
 
--- ---- one chunk of k, then m others
-module _ (s : List ℕ) (base k m : ℕ) (c d : Cursor) (passes : Passes (strings s (k + m) c)) (to : got tt d ≡ ends (strings s k c)) where
-  abbrev l : List ℕ
-  l = textsIn s (entriesOf s)
+chosen-next : (s : List ℕ) (base n : ℕ) (c g : Cursor) → got tt g ≡ ends (nextText s c) → Passes (strings s (suc n) c)
+    → piecesOf (chosen s base (suc n) c) ≡ markedPieces (pick (uses (textsIn s (entriesOf s)) base) 1 0) (theText (nextText s c)) ++ piecesOf (chosen s (base + 1) n g)
+unfolding kept marksFrom
+chosen-next s base n c g to p =
+    ap (λ (ts : List Text). piecesOf (kept (marksFrom (textsIn s (entriesOf s)) base (suc n)) ts)) (next-by s n c .texts g to p)
+    ∙ kept-pieces (pick (uses (textsIn s (entriesOf s)) base) 1 0) (theText (nextText s c)) (chosen s (base + 1) n g)
 
-  abbrev ms : List ℕ
-  ms = marksFrom l base k
+record Two (s : List ℕ) (k m : ℕ) (d : Cursor) (base j n : ℕ) (c : Cursor) : Type 0 where
+  pub passes : Passes (strings s m d)
+  pub pieces : piecesOf (chosen s base n c) ≡ piecesOf (chosen s base k c) ++ piecesOf (chosen s j m d)
 
-  abbrev ns : List ℕ
-  ns = marksFrom l (base + k) m
+abbrev TwoFrom : List ℕ → ℕ → ℕ → Cursor → Type 0
+TwoFrom s k m d = (base j n : ℕ) (c : Cursor) → j ≡ base + k → n ≡ k + m → Passes (strings s n c) → got tt d ≡ ends (strings s k c) → Two s k m d base j n c
 
-  first-length : length ms ≡ k
-  first-length = marks-length l base k
+two-next : (s : List ℕ) (k m : ℕ) (d : Cursor) → TwoFrom s k m d → TwoFrom s (suc k) m d
+two-next s k m d ih base j n c at all p to =
+    let next : j ≡ base + 1 + k = omega arith in
+    let more : n ≡ suc (k + m) = omega arith in
+    let q = subst (λ (i : ℕ). Passes (strings s i c)) more p in
+    by next more q (nextText s c) refl (next-by s (k + m) c .first-passes q)
+  where
+    by : j ≡ base + 1 + k → n ≡ suc (k + m) → Passes (strings s (suc (k + m)) c) → (x : Got Text) → nextText s c ≡ x → Passes x → Two s (suc k) m d base j n c
+    by next more q (refused a b) e t = absurd t
+    by next more q (got x g) e t =
+        let on : got tt g ≡ ends (nextText s c) = ap ends (sym e) in
+        let first = markedPieces (pick (uses (textsIn s (entriesOf s)) base) 1 0) (theText (nextText s c)) in
+        let r = ih (base + 1) j (k + m) g next refl (next-by s (k + m) c .others g on q) (to ∙ next-by s k c .same-ends g on) in
+        record {
+          passes = r .passes;
+          pieces =
+              ap (λ (i : ℕ). piecesOf (chosen s base i c)) more ∙ chosen-next s base (k + m) c g on q ∙ ap (λ (l : List Piece). first ++ l) (r .pieces)
+              ∙ sym (append-assoc first (piecesOf (chosen s (base + 1) k g)) (piecesOf (chosen s j m d)))
+              ∙ ap (λ (l : List Piece). l ++ piecesOf (chosen s j m d)) (sym (chosen-next s base k c g on (passes-by (strings s (suc k) c) (got (tt {0}) d) (sym to) (tt {0}))));
+        }
 
-  second-length : length ns ≡ m
-  second-length = marks-length l (base + k) m
-
-  both-length : length (ms ++ ns) ≡ k + m
-  both-length = length-append ms ns ∙ ap₂ _+_ first-length second-length
-
-  both-pass : Passes (strings s (length (ms ++ ns)) c)
-  both-pass = subst (λ (j : ℕ). Passes (strings s j c)) (sym both-length) passes
-
-  first-to : got tt d ≡ ends (strings s (length ms) c)
-  first-to = to ∙ ap (λ (j : ℕ). ends (strings s j c)) (sym first-length)
-
-  all-is : kept (ms ++ ns) (textsFrom s (length (ms ++ ns)) c) ≡ chosen s base (k + m) c
-  all-is = ap₂ (λ (x : List ℕ) (j : ℕ). kept x (textsFrom s j c)) (sym (marks-append l base k m)) both-length
-
-  first-is : kept ms (textsFrom s (length ms) c) ≡ chosen s base k c
-  first-is = ap (λ (j : ℕ). kept ms (textsFrom s j c)) first-length
-
-  second-is : kept ns (textsFrom s (length ns) d) ≡ chosen s (base + k) m d
-  second-is = ap (λ (j : ℕ). kept ns (textsFrom s j d)) second-length
-
-  pub two-second : Passes (strings s m d)
-  two-second = subst (λ (j : ℕ). Passes (strings s j d)) second-length (chunks s ms ns c d both-pass first-to .second-passes)
-
-  pub two-inside : Inside s c → Inside s d
-  two-inside h = strings-inside s k c d (Moved.To d) to refl h
-
-  pub two-sized : (g : Span) → sized (sized g (piecesOf (chosen s base k c))) (piecesOf (chosen s (base + k) m d)) ≡ sized g (piecesOf (chosen s base (k + m) c))
-  two-sized g =
-      ap₂ (λ (x y : List Text). sized (sized g (piecesOf x)) (piecesOf y)) (sym first-is) (sym second-is)
-      ∙ chunk-sized s ms ns c d both-pass first-to g ∙ ap (λ (x : List Text). sized g (piecesOf x)) all-is
-
-  pub two-wrote : (w : Wrote) → wrote (wrote w (piecesOf (chosen s base k c))) (piecesOf (chosen s (base + k) m d)) ≡ wrote w (piecesOf (chosen s base (k + m) c))
-  two-wrote w =
-      ap₂ (λ (x y : List Text). wrote (wrote w (piecesOf x)) (piecesOf y)) (sym first-is) (sym second-is)
-      ∙ chunk-wrote s ms ns c d both-pass first-to w ∙ ap (λ (x : List Text). wrote w (piecesOf x)) all-is
-
-  pub two-long-first : (w : Wrote) → Long w (piecesOf (chosen s base (k + m) c)) → Long w (piecesOf (chosen s base k c))
-  two-long-first w h = subst (λ (x : List Text). Long w (piecesOf x)) first-is (chunk-long s ms ns c d both-pass first-to w (subst (λ (x : List Text). Long w (piecesOf x)) (sym all-is) h))
-
-  pub two-long : (w : Wrote) → Long w (piecesOf (chosen s base (k + m) c)) → Long (wrote w (piecesOf (chosen s base k c))) (piecesOf (chosen s (base + k) m d))
-  two-long w h =
-      subst (λ (x : List Text). Long (wrote w (piecesOf x)) (piecesOf (chosen s (base + k) m d))) first-is
-      (subst (λ (y : List Text). Long (wrote w (piecesOf (kept ms (textsFrom s (length ms) c)))) (piecesOf y)) second-is
-      (chunk-long-2 s ms ns c d both-pass first-to w (subst (λ (x : List Text). Long w (piecesOf x)) (sym all-is) h)))
+two : (s : List ℕ) (k m : ℕ) (d : Cursor) → TwoFrom s k m d
+unfolding strings marksFrom kept piecesOf
+two s zero m d base j n c at all p to =
+    let i : _≡_ {A = Cursor} c d = cc in
+    let x : n ≡ m = omega arith in
+    let y : base ≡ j = omega arith in
+    record {
+      passes = subst (λ (e : Cursor). Passes (strings s m e)) i (subst (λ (h : ℕ). Passes (strings s h c)) x p);
+      pieces = ap₂ (λ (h : ℕ) (e : Cursor). piecesOf (chosen s base h e)) x i ∙ ap (λ (h : ℕ). piecesOf (chosen s h m d)) y;
+    }
+two s (suc k) m d base j n c at all p to = two-next s k m d (two s k m d) base j n c at all p to
 
 -- the first k pass where all do
-push-pass : (d : Cursor) (x : Got (List Cursor)) → Passes x → Passes (push d x)
-push-pass d (got v c) h = tt
-push-pass d (refused n o) h = absurd h
-
-pass-push : (d : Cursor) (x : Got (List Cursor)) → Passes (push d x) → Passes x
-pass-push d (got v c) h = tt
-pass-push d (refused n o) h = absurd h
-
-pass-step : (s : List ℕ) (n k : ℕ) (c : Cursor) → ((e : Cursor) → Passes (strings s n e) → Passes (strings s k e)) → Passes (strings s (suc n) c) → Passes (strings s (suc k) c)
-unfolding strings
-pass-step s n k c ih h = at-place (nextPlace s c) h
+pass-next : (s : List ℕ) (k n : ℕ) → ((c : Cursor) → Passes (strings s n c) → Passes (strings s k c)) → (c : Cursor) → Passes (strings s (suc n) c) → Passes (strings s (suc k) c)
+pass-next s k n ih c p = by (nextText s c) refl (next-by s n c .first-passes p)
   where
-    at-string : (d : Cursor) (x : Got (List ℕ)) → Passes (then x (λ _ e. push d (strings s n e))) → Passes (then x (λ _ e. push d (strings s k e)))
-    at-string d (got us e) p = push-pass d (strings s k e) (ih e (pass-push d (strings s n e) p))
-    at-string d (refused a b) p = absurd p
+    by : (x : Got Text) → nextText s c ≡ x → Passes x → Passes (strings s (suc k) c)
+    by (got t g) q h =
+        let on : got tt g ≡ ends (nextText s c) = ap ends (sym q) in
+        passes-by (strings s (suc k) c) (strings s k g) (next-by s k c .same-ends g on) (ih g (next-by s n c .others g on p))
+    by (refused a b) q h = absurd h
 
-    at-place : (x : Got Unit) → Passes (then x (λ _ d. then (stringAt s d) (λ _ e. push d (strings s n e)))) → Passes (then x (λ _ d. then (stringAt s d) (λ _ e. push d (strings s k e))))
-    at-place (got u d) p = at-string d (stringAt s d) p
-    at-place (refused a b) p = absurd p
-
-none-pass : (s : List ℕ) (c : Cursor) → Passes (strings s 0 c)
+first-pass : (s : List ℕ) (k n : ℕ) → k ≤ n → (c : Cursor) → Passes (strings s n c) → Passes (strings s k c)
 unfolding strings
-none-pass s c = tt
-
-first-pass : (s : List ℕ) (k m : ℕ) (c : Cursor) → Passes (strings s (k + m) c) → Passes (strings s k c)
-first-pass s zero m c h = none-pass s c
-first-pass s (suc k) m c h = let e : suc k + m ≡ suc (k + m) = omega arith in pass-step s (k + m) k c (λ d. first-pass s k m d) (subst (λ (j : ℕ). Passes (strings s j c)) e h)
+first-pass s zero n h c p = tt
+first-pass s (suc k) zero h c p = absurd (omega arith)
+first-pass s (suc k) (suc n) h c p = pass-next s k n (first-pass s k n (omega arith)) c p
 
 pub fit-words : (l l₀ : List ℕ) (k : ℕ) → length l ≡ length l₀ → k ≤ length l₀ * 64 → k ≤ length l * 64
 fit-words l l₀ k e h = omega arith
@@ -206,174 +178,141 @@ same-words l l₀ l₁ e f = e ∙ f
 
 pub ruleset word-laws = (fit-words, few-words, same-words)
 
+-- ---- the strings from index base on, up to u, which stand at c
+pub record Ahead (s : List ℕ) (u base : ℕ) (c : Cursor) : Type 0 where
+  pub short : length s ≤ 16777216
+  pub few : u < 4294967296
+  pub within : base ≤ u
+  pub inside : Inside s c
+  pub passes : Passes (strings s (u - base) c)
+
+abbrev ahead : List ℕ → ℕ → ℕ → Cursor → List Piece
+ahead s u base c = piecesOf (chosen s base (u - base) c)
+
+pub ahead-start : (s : List ℕ) (u : ℕ) (c : Cursor) → length s ≤ 16777216 → u < 4294967296 → Inside s c → Passes (strings s u c) → Ahead s u 0 c
+ahead-start s u c a b i p = let e : u ≡ u - 0 = omega arith in record { short = a; few = b; within = omega arith; inside = i; passes = subst (λ (j : ℕ). Passes (strings s j c)) e p }
+
+all-ahead : (s : List ℕ) (u : ℕ) (c : Cursor) → ahead s u 0 c ≡ piecesOf (chosen s 0 u c)
+all-ahead s u c = let e : u - 0 ≡ u = omega arith in ap (λ (j : ℕ). piecesOf (chosen s 0 j c)) e
+
+none-ahead : (s : List ℕ) (u base : ℕ) (c : Cursor) → u ≤ base → ahead s u base c ≡ []
+unfolding marksFrom kept piecesOf
+none-ahead s u base c h = let e : u - base ≡ 0 = omega arith in ap (λ (j : ℕ). piecesOf (chosen s base j c)) e
+
+module _ (s : List ℕ) (u base : ℕ) (c : Cursor) (z : Ahead s u base c) where
+  pub ahead-short : length s ≤ 16777216
+  ahead-short = z .short
+
+  pub ahead-inside : Inside s c
+  ahead-inside = z .inside
+
+  pub ahead-within : base ≤ u
+  ahead-within = z .within
+
+  module _ (k : ℕ) (le : k ≤ u - base) where
+    pub ahead-pass : Passes (strings s k c)
+    ahead-pass = first-pass s k (u - base) le c (z .passes)
+
+    pub ahead-sum : base + k < 18446744073709551616
+    ahead-sum = let a = z .within in let b = z .few in omega arith
+
+    pub ahead-less : 0 < k → u - (base + k) < u - base
+    ahead-less h = let a = z .within in omega arith
+
+    module _ (d : Cursor) (to : got tt d ≡ ends (strings s k c)) where
+      rest-of : Two s k (u - (base + k)) d base (base + k) (u - base) c
+      rest-of = two s k (u - (base + k)) d base (base + k) (u - base) c refl (let a = z .within in omega arith) (z .passes) to
+
+      pub ahead-next : Ahead s u (base + k) d
+      ahead-next = record { short = z .short; few = z .few; within = let a = z .within in omega arith; inside = strings-inside s k c d (Moved.To d) to refl (z .inside); passes = rest-of .passes }
+
+      rest-pieces : ahead s u base c ≡ piecesOf (chosen s base k c) ++ ahead s u (base + k) d
+      rest-pieces = rest-of .pieces
+
+pub ruleset ahead-laws = (ahead-start, ahead-short, ahead-inside, ahead-within, ahead-pass, ahead-sum, ahead-less, ahead-next)
+
 -- ---- counting
 pub record Sizing (s : List ℕ) (u : ℕ) (c₀ : Cursor) (base count : ℕ) (c : Cursor) (g : Span) : Type 0 where
   pub tally : count ≡ usedBelow (textsIn s (entriesOf s)) base
-  pub short : length s ≤ 16777216
-  pub few : u < 4294967296
-  pub within : base ≤ u
-  pub inside : Inside s c
-  pub passes : Passes (strings s (u - base) c)
-  pub same : sized g (piecesOf (chosen s base (u - base) c)) ≡ sized (record { room = 8216; size = 12 }) (piecesOf (chosen s 0 u c₀))
+  pub same : sized g (ahead s u base c) ≡ sized (record { room = 8216; size = 12 }) (piecesOf (chosen s 0 u c₀))
 
-none-used : (l : List ℕ) → 0 ≡ usedBelow l 0
+pub sizing-start : (s : List ℕ) (u : ℕ) (c : Cursor) → Sizing s u c 0 0 c (record { room = 8216; size = 12 })
 unfolding usedBelow
-none-used l = refl
+sizing-start s u c = record { tally = refl; same = ap (sized (record { room = 8216; size = 12 })) (all-ahead s u c) }
 
-pub sizing-start : (s : List ℕ) (u : ℕ) (c : Cursor) → length s ≤ 16777216 → u < 4294967296 → Inside s c → Passes (strings s u c) → Sizing s u c 0 0 c (record { room = 8216; size = 12 })
-sizing-start s u c a b i p =
-    let e : u ≡ u - 0 = omega arith in
-    record { tally = none-used (textsIn s (entriesOf s)); short = a; few = b; within = omega arith; inside = i; passes = subst (λ (j : ℕ). Passes (strings s j c)) e p; same = ap (λ (j : ℕ). sized (record { room = 8216; size = 12 }) (piecesOf (chosen s 0 j c))) (sym e) }
-
-module _ (s : List ℕ) (u : ℕ) (c₀ : Cursor) (base count : ℕ) (c : Cursor) (g : Span) (z : Sizing s u c₀ base count c g) where
-  pub sizing-short : length s ≤ 16777216
-  sizing-short = z .short
-
-  pub sizing-inside : Inside s c
-  sizing-inside = z .inside
-
-  pub sizing-within : base ≤ u
-  sizing-within = z .within
-
+module _ (s : List ℕ) (u : ℕ) (c₀ : Cursor) (base count : ℕ) (c : Cursor) (g : Span) (z : Sizing s u c₀ base count c g) (a : Ahead s u base c) where
   module _ (k : ℕ) (le : k ≤ u - base) where
-    split : k + (u - (base + k)) ≡ u - base
-    split = let a = z .within in omega arith
-
-    whole-pass : Passes (strings s (k + (u - (base + k))) c)
-    whole-pass = subst (λ (j : ℕ). Passes (strings s j c)) (sym split) (z .passes)
-
-    pub sizing-pass : Passes (strings s k c)
-    sizing-pass = first-pass s k (u - (base + k)) c whole-pass
-
-    pub sizing-sum : base + k < 18446744073709551616
-    sizing-sum = let a = z .within in let b = z .few in omega arith
-
-    pub sizing-less : 0 < k → u - (base + k) < u - base
-    sizing-less h = let a = split in omega arith
+    pub sizing-small : (l : List ℕ) (t : ℕ) → t ≡ setBelow l k → count + t < 18446744073709551616
+    sizing-small l t h =
+        let b = used-low (textsIn s (entriesOf s)) base in
+        let c = set-most l k in
+        let d = z .tally in
+        let e = a .within in
+        let f = a .few in
+        omega arith
 
     pub sizing-next : (d : Cursor) (x : Span) (n : ℕ) (l : List ℕ) (t : ℕ) → got tt d ≡ ends (strings s k c) → x ≡ sized g (piecesOf (chosen s base k c)) → Flagged (textsIn s (entriesOf s)) base n l → k ≤ n * 64 → t ≡ setBelow l k
         → Sizing s u c₀ (base + k) (count + t) d x
-    sizing-next d x n l t to′ is′ made fit tally =
+    sizing-next d x n l t to is made fit tally =
         record {
-          tally = (let a = z .tally in let b = used-from (textsIn s (entriesOf s)) base n l made k fit in omega arith);
-          short = z .short;
-          few = z .few;
-          within = let a = z .within in omega arith;
-          inside = two-inside s base k (u - (base + k)) c d whole-pass to′ (z .inside);
-          passes = two-second s base k (u - (base + k)) c d whole-pass to′;
-          same = ap (λ (y : Span). sized y (piecesOf (chosen s (base + k) (u - (base + k)) d))) is′ ∙ two-sized s base k (u - (base + k)) c d whole-pass to′ g ∙ ap (λ (j : ℕ). sized g (piecesOf (chosen s base j c))) split ∙ z .same;
+          tally = (let b = z .tally in let e = used-from (textsIn s (entriesOf s)) base n l made k fit in omega arith);
+          same =
+              ap (λ (y : Span). sized y (ahead s u (base + k) d)) is
+              ∙ sym (ap (sized g) (rest-pieces s u base c a k le d to) ∙ sized-append (piecesOf (chosen s base k c)) (ahead s u (base + k) d) g) ∙ z .same;
         }
 
-  none-left : u ≤ base → piecesOf (chosen s base (u - base) c) ≡ []
-  unfolding marksFrom kept piecesOf
-  none-left h = let e : u - base ≡ 0 = omega arith in ap (λ (j : ℕ). piecesOf (chosen s base j c)) e
+  module _ (last : u ≤ base) where
+    pub sizing-tally : count ≡ usedBelow (textsIn s (entriesOf s)) u
+    sizing-tally = let b = a .within in let e : base ≡ u = omega arith in z .tally ∙ ap (usedBelow (textsIn s (entriesOf s))) e
 
-  sized-none : (y : Span) → sized y [] ≡ y
-  unfolding sized
-  sized-none y = refl
+    pub sizing-done : Counted (chosen s 0 u c₀) (g .size)
+    unfolding sized
+    sizing-done = counted-by (chosen s 0 u c₀) g (ap (sized g) (sym (none-ahead s u base c last)) ∙ z .same)
 
-  pub sizing-tally : u ≤ base → count ≡ usedBelow (textsIn s (entriesOf s)) u
-  sizing-tally h = let a = z .within in let e : base ≡ u = omega arith in z .tally ∙ ap (usedBelow (textsIn s (entriesOf s))) e
-
-  pub sizing-small : (n : ℕ) (l : List ℕ) (k t : ℕ) → k ≤ u - base → t ≡ setBelow l k → count + t < 18446744073709551616
-  sizing-small n l k t h e =
-      let a = used-low (textsIn s (entriesOf s)) base in
-      let b = set-most l k in
-      let c = z .tally in
-      let d = z .within in
-      let f = z .few in
-      omega arith
-
-  pub sizing-done : u ≤ base → Counted (chosen s 0 u c₀) (g .size)
-  sizing-done h = counted-by (chosen s 0 u c₀) g (sym (sized-none g) ∙ ap (sized g) (sym (none-left h)) ∙ z .same)
-
-pub ruleset size-laws = (sizing-short, sizing-start, sizing-inside, sizing-within, sizing-pass, sizing-sum, sizing-less, sizing-next, sizing-tally, sizing-small, sizing-done, flagged-length)
+pub ruleset size-laws = (ahead-laws, sizing-start, sizing-small, sizing-next, sizing-tally, sizing-done, flagged-length)
 
 -- ---- writing
 pub record Putting (s : List ℕ) (u : ℕ) (c₀ : Cursor) (b₀ : List ℕ) (o₀ : Out) (base : ℕ) (c : Cursor) (b : List ℕ) (o : Out) : Type 0 where
-  pub short : length s ≤ 16777216
-  pub few : u < 4294967296
-  pub within : base ≤ u
-  pub inside : Inside s c
   pub tidy : Tidy o
-  pub passes : Passes (strings s (u - base) c)
-  pub long : Long (state b o) (piecesOf (chosen s base (u - base) c))
+  pub long : Long (state b o) (ahead s u base c)
   pub size : length b ≡ length b₀
-  pub same : wrote (state b o) (piecesOf (chosen s base (u - base) c)) ≡ wrote (state b₀ o₀) (piecesOf (chosen s 0 u c₀))
+  pub same : wrote (state b o) (ahead s u base c) ≡ wrote (state b₀ o₀) (piecesOf (chosen s 0 u c₀))
 
-pub putting-start : (s : List ℕ) (u : ℕ) (c : Cursor) (b : List ℕ) (o : Out) → length s ≤ 16777216 → u < 4294967296 → Inside s c → Tidy o → Passes (strings s u c) → Long (state b o) (piecesOf (chosen s 0 u c)) → Putting s u c b o 0 c b o
-putting-start s u c b o x y i t p l =
-    let e : u ≡ u - 0 = omega arith in
-    record { short = x; few = y; within = omega arith; inside = i; tidy = t; passes = subst (λ (j : ℕ). Passes (strings s j c)) e p; long = subst (λ (j : ℕ). Long (state b o) (piecesOf (chosen s 0 j c))) e l; size = refl; same = ap (λ (j : ℕ). wrote (state b o) (piecesOf (chosen s 0 j c))) (sym e) }
+pub putting-start : (s : List ℕ) (u : ℕ) (c : Cursor) (b : List ℕ) (o : Out) → Tidy o → Long (state b o) (piecesOf (chosen s 0 u c)) → Putting s u c b o 0 c b o
+putting-start s u c b o t l = record { tidy = t; long = subst (Long (state b o)) (sym (all-ahead s u c)) l; size = refl; same = ap (wrote (state b o)) (all-ahead s u c) }
 
 module _ (s : List ℕ) (u : ℕ) (c₀ : Cursor) (b₀ : List ℕ) (o₀ : Out) (base : ℕ) (c : Cursor) (b : List ℕ) (o : Out) (z : Putting s u c₀ b₀ o₀ base c b o) where
-  pub putting-short : length s ≤ 16777216
-  putting-short = z .short
-
-  pub putting-inside : Inside s c
-  putting-inside = z .inside
-
   pub putting-tidy : Tidy o
   putting-tidy = z .tidy
-
-  pub putting-within : base ≤ u
-  putting-within = z .within
 
   pub putting-length : length b ≡ length b₀
   putting-length = z .size
 
-  module _ (k : ℕ) (le : k ≤ u - base) where
-    put-split : k + (u - (base + k)) ≡ u - base
-    put-split = let a = z .within in omega arith
+  module _ (a : Ahead s u base c) (k : ℕ) (le : k ≤ u - base) where
+    module _ (d : Cursor) (to : got tt d ≡ ends (strings s k c)) where
+      both-long : Long (state b o) (piecesOf (chosen s base k c) ++ ahead s u (base + k) d)
+      both-long = subst (Long (state b o)) (rest-pieces s u base c a k le d to) (z .long)
 
-    put-pass : Passes (strings s (k + (u - (base + k))) c)
-    put-pass = subst (λ (j : ℕ). Passes (strings s j c)) (sym put-split) (z .passes)
-
-    first-passes : Passes (strings s k c)
-    first-passes = first-pass s k (u - (base + k)) c put-pass
-
-    put-all-long : Long (state b o) (piecesOf (chosen s base (k + (u - (base + k))) c))
-    put-all-long = subst (λ (j : ℕ). Long (state b o) (piecesOf (chosen s base j c))) (sym put-split) (z .long)
-
-    pub putting-pass : Passes (strings s k c)
-    putting-pass = first-passes
+      pub putting-next : (b′ : List ℕ) (o′ : Out) → state b′ o′ ≡ wrote (state b o) (piecesOf (chosen s base k c)) → Putting s u c₀ b₀ o₀ (base + k) d b′ o′
+      putting-next b′ o′ is =
+          let here = piecesOf (chosen s base k c) in
+          let later = ahead s u (base + k) d in
+          record {
+            tidy = tidy-after b b′ o o′ here is (z .tidy);
+            long = subst (λ (y : Wrote). Long y later) (sym is) (long-right here later (state b o) both-long);
+            size = ap (λ (y : Wrote). length (y .buf)) is ∙ wrote-length here (state b o) ∙ z .size;
+            same = ap (λ (y : Wrote). wrote y later) is ∙ sym (ap (wrote (state b o)) (rest-pieces s u base c a k le d to) ∙ wrote-append here later (state b o)) ∙ z .same;
+          }
 
     pub putting-long : Long (state b o) (piecesOf (chosen s base k c))
-    putting-long = by (strings s k c) refl first-passes
+    putting-long = by (strings s k c) refl (ahead-pass s u base c a k le)
       where
         by : (x : Got (List Cursor)) → strings s k c ≡ x → Passes x → Long (state b o) (piecesOf (chosen s base k c))
-        by (got v d) q p = two-long-first s base k (u - (base + k)) c d put-pass (ap ends (sym q)) (state b o) put-all-long
+        by (got v d) q p = long-left (piecesOf (chosen s base k c)) (ahead s u (base + k) d) (state b o) (both-long d (ap ends (sym q)))
         by (refused n f) q p = absurd p
 
-    pub putting-sum : base + k < 18446744073709551616
-    putting-sum = let a = z .within in let y = z .few in omega arith
-
-    pub putting-less : 0 < k → u - (base + k) < u - base
-    putting-less h = let a = put-split in omega arith
-
-    pub putting-next : (d : Cursor) (b′ : List ℕ) (o′ : Out) → got tt d ≡ ends (strings s k c) → state b′ o′ ≡ wrote (state b o) (piecesOf (chosen s base k c)) → Putting s u c₀ b₀ o₀ (base + k) d b′ o′
-    putting-next d b′ o′ to′ is′ =
-        record {
-          short = z .short;
-          few = z .few;
-          within = let a = z .within in omega arith;
-          inside = two-inside s base k (u - (base + k)) c d put-pass to′ (z .inside);
-          tidy = tidy-after b b′ o o′ (piecesOf (chosen s base k c)) is′ (z .tidy);
-          passes = two-second s base k (u - (base + k)) c d put-pass to′;
-          long = subst (λ (y : Wrote). Long y (piecesOf (chosen s (base + k) (u - (base + k)) d))) (sym is′) (two-long s base k (u - (base + k)) c d put-pass to′ (state b o) put-all-long);
-          size = ap (λ (y : Wrote). length (y .buf)) is′ ∙ wrote-length (piecesOf (chosen s base k c)) (state b o) ∙ z .size;
-          same = ap (λ (y : Wrote). wrote y (piecesOf (chosen s (base + k) (u - (base + k)) d))) is′ ∙ two-wrote s base k (u - (base + k)) c d put-pass to′ (state b o) ∙ ap (λ (j : ℕ). wrote (state b o) (piecesOf (chosen s base j c))) put-split ∙ z .same;
-        }
-
-  put-none : u ≤ base → piecesOf (chosen s base (u - base) c) ≡ []
-  unfolding marksFrom kept piecesOf
-  put-none h = let e : u - base ≡ 0 = omega arith in ap (λ (j : ℕ). piecesOf (chosen s base j c)) e
-
-  wrote-none : (y : Wrote) → wrote y [] ≡ y
-  unfolding wrote
-  wrote-none y = refl
-
   pub putting-done : u ≤ base → state b o ≡ wrote (state b₀ o₀) (piecesOf (chosen s 0 u c₀))
-  putting-done h = sym (wrote-none (state b o)) ∙ ap (wrote (state b o)) (sym (put-none h)) ∙ z .same
+  unfolding wrote
+  putting-done h = ap (wrote (state b o)) (sym (none-ahead s u base c h)) ∙ z .same
 
-pub ruleset put-laws = (putting-short, putting-start, putting-inside, putting-tidy, putting-within, putting-length, putting-pass, putting-long, putting-sum, putting-less, putting-next, putting-done)
+pub ruleset put-laws = (ahead-laws, putting-start, putting-tidy, putting-length, putting-long, putting-next, putting-done)

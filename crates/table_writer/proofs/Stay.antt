@@ -1,15 +1,16 @@
 -- Bytes that are written as they are: items of one byte that stand in one segment, and go into one. Assumes nothing.
 use Prim.Native.Nat.{ℕ, zero, suc, _+_, _-_, _*_, _≤_, _<_}
-use mathlib.Core.Path.{_≡_, refl, sym, ap, _∙_, subst}
+use mathlib.Core.Path.{_≡_, refl, sym, ap, ap₂, _∙_, subst}
 use mathlib.Core.List.{List, [], _∷_, append-nil}
 use mathlib.Core.Bool.{Bool, true, false}
 use native.Mathlib.Omega.{arith}
 use lib.ListN.{length, getD}
+use lib.Seq.{sets}
 use mir.Val.{Fits as FitsIn}
 use mir.Syntax.{w8}
 use Rattle.steps.proofs.Choice.{never, pick-nlt}
-use Rattle.bytes.specs.Bytes.{numAt, bytesOf}
-use Rattle.bytes.proofs.Laws.{length-bytes}
+use Rattle.bytes.specs.Bytes.{numAt, bytesAt, bytesOf}
+use Rattle.bytes.proofs.Laws.{length-bytes, bytes-first}
 use Rattle.segments.specs.declared.Cursor.{Cursor}
 use Rattle.segments.specs.Segments.{Got, got, listOf, on, items}
 use Rattle.segments.specs.Parts.{Inside, ends, nums, stored}
@@ -102,11 +103,20 @@ pub plain-low : (w v n here room : ℕ) (x : Bool) → Stays w v n here room x �
 plain-low w v n here room x t e = t .told e .3
 
 -- ---- bytes copied
-pub bytes-added : (s : List ℕ) (n p : ℕ) (b b′ : List ℕ) (o : Out) → b′ ≡ stored b (o .at) (nums s 1 n p) → state b′ (record { seg = o .seg; at = o .at + n; room = o .room - n }) ≡ added (state b o) (nums s 1 n p)
-unfolding added
-bytes-added s n p b b′ o h =
+nums-bytes : (s : List ℕ) (n p : ℕ) → p + n ≤ length s → bytesAt s p n ≡ nums s 1 n p
+unfolding bytesAt nums numAt
+nums-bytes s zero p h = refl
+nums-bytes s (suc n) p h =
+    let e : suc n - 1 ≡ n = omega arith in
+    let b : getD s p 0 ≡ numAt s 1 p = omega arith in
+    bytes-first s p (suc n) (omega arith) (omega arith) ∙ ap (λ (m : ℕ). getD s p 0 ∷ bytesAt s (p + 1) m) e ∙ ap₂ _∷_ b (nums-bytes s n (p + 1) (omega arith))
+
+pub bytes-added : (s : List ℕ) (n p : ℕ) (b b′ : List ℕ) (o : Out) → b′ ≡ sets b (o .at) (bytesAt s p n) → p + n ≤ length s → state b′ (record { seg = o .seg; at = o .at + n; room = o .room - n }) ≡ added (state b o) (nums s 1 n p)
+unfolding added stored
+bytes-added s n p b b′ o h l =
     let e : n ≡ length (nums s 1 n p) = sym (nums-length s 1 n p) in
-    λ i. record { buf = h i; out = record { seg = o .seg; at = o .at + e i; room = o .room - e i } }
+    let f = h ∙ ap (sets b (o .at)) (nums-bytes s n p l) in
+    λ i. record { buf = f i; out = record { seg = o .seg; at = o .at + e i; room = o .room - e i } }
 
 -- ---- what is told
 module _ (w v n here room : ℕ) where
@@ -117,7 +127,3 @@ module _ (w v n here room : ℕ) where
   plain-no = record { told = λ e. never cc }
 
 pub ruleset told-laws = (plain-yes, plain-no)
-
-pub byte-num : (s : List ℕ) (p : ℕ) → getD s p 0 ≡ numAt s 1 p
-unfolding numAt
-byte-num s p = omega arith

@@ -6,7 +6,7 @@ ghost use Prim.Native.Nat.{_+_, _-_, _*_, _≤_, _<_};
 ghost use lib.ListN.{length};
 ghost use Rattle.bytes.specs.Bytes.{numAt, bytesOf};
 ghost use Rattle.segments.specs.Segments.{got, listOf, on, items};
-ghost use Rattle.segments.specs.Parts.{Inside, Passes, ends, nums, stored};
+ghost use Rattle.segments.specs.Parts.{Inside, Passes, ends, nums};
 ghost use Rattle.table_texts.specs.Written.{openingOf, pieceOf, itemPieces, wideBit, textPieces, piecesOf};
 ghost use Rattle.table_texts.specs.Texts.{theText, textAt, kept};
 ghost use Rattle.strings.specs.Table.{strings};
@@ -167,28 +167,12 @@ fn plain(w: usize, v: usize, n: usize, here: usize, room: usize) -> bool
     false
 }
 
-// n bytes from p on, into the buffer.
-fn copy_bytes(s: &[u8], n: usize, p: usize, buf: &mut [u8], at: usize)
-    requires { ⌜ (p + n ≤ length (now s)) × (at + n ≤ length (now buf)) ⌝ }
-    ensures { λ _. ⌜ now (buf .exit) ≡ stored (now (buf .entry)) at (nums (now (s .entry)) 1 n p) ⌝ }
-{
-    let mut left = n;
-    let mut from = p;
-    let mut to = at;
-    while 0 < left {
-        buf[to] = s[from];
-        from += 1;
-        to += 1;
-        left -= 1;
-    }
-}
-
 // n bytes that stand at c, in the segment at hand.
 fn put_bytes(s: &[u8], n: usize, c: Cursor, buf: &mut [u8], o: Out) -> Copied
     requires { ⌜ (c .at + n ≤ length (now s)) × (n ≤ o .room) × (o .at + n ≤ length (now buf)) ⌝ }
     ensures { λ r. ⌜ (r .from ≡ on c n) × (state (now (buf .exit)) (r .out) ≡ added (state (now (buf .entry)) o) (nums (now (s .entry)) 1 n (c .at))) ⌝ }
 {
-    copy_bytes(s, n, c.at, buf, o.at);
+    bytes::copy(s, c.at, n, buf, o.at);
     Copied {
         from: Cursor {
             seg: c.seg,

@@ -1,12 +1,14 @@
 -- The laws of comparing characters, with what a call gave as the proofs have it. Assumes nothing.
 use Prim.Native.Nat.{ℕ, zero, suc, _+_, _-_, _*_, _/_, _^_, _≤_, _<_}
-use mathlib.Core.Path.{_≡_, refl, sym, ap, _∙_, subst}
+use mathlib.Core.Path.{_≡_, refl, sym, ap, _∙_, subst, subst⁻¹}
 use mathlib.Core.Bool.{Bool, true, false}
 use mathlib.Core.List.{List, [], _∷_, _++_}
 use native.Mathlib.Omega.{arith}
 use native.Mathlib.Nat.{suc-add, suc-mul, add-mul, mul-le-mul-right, div-one, div-mul-le-self}
 use lib.ListN.{length, getD}
-use lib.Dec.{eqb}
+use lib.Dec.{eqb, ltb}
+use lib.Bits.{bitOr, bitXor, or-add-and, xor-add-and, and-le-l, and-le-r}
+use borrow.Author.Tests.{eq-eqb, ne-eqb, eqb-true, eqb-false, ltb-true, ltb-false}
 use mir.Val.{Fits as FitsIn}
 use mir.Syntax.{w64}
 use Rattle.steps.specs.Choice.{pick}
@@ -21,7 +23,7 @@ use Rattle.segments.proofs.Local.{ItemAt, room-item}
 use Rattle.differences.specs.Differences.{same, charsFrom, charsOf}
 use Rattle.text_equality.specs.declared.Chars.{Chars}
 use Rattle.text_equality.specs.declared.Run.{Run}
-use Rattle.text_equality.specs.Characters.{Readable, unitsIn, Ready, pastBy, RunFits}
+use Rattle.text_equality.specs.Characters.{Readable, unitsIn, Ready, pastBy, RunFits, Lanes, Skips}
 
 -- ---- lists
 pub same-apart : (l m : List ℕ) → (length l ≡ length m → ⊥) → false ≡ same l m
@@ -115,18 +117,12 @@ pub record Met (s : List ℕ) (w p : ℕ) (t : List ℕ) (v q k a b done : ℕ) 
   pub second : b ≡ q + done * v
   pub rest : same (nums s w k p) (nums t v k q) ≡ same (nums s w (k - done) a) (nums t v (k - done) b)
 
-abbrev pub Skips : List ℕ → ℕ → ℕ → List ℕ → ℕ → ℕ → ℕ → ℕ → Type 0
-Skips s w p t v q k r = (r ≤ k) × (same (nums s w k p) (nums t v k q) ≡ same (nums s w (k - r) (p + r * w)) (nums t v (k - r) (q + r * v)))
-
 module _ (s : List ℕ) (w p : ℕ) (t : List ℕ) (v q k : ℕ) where
   pub met-none : Met s w p t v q k p q 0
   met-none = record { few = omega arith; first = omega arith; second = omega arith; rest = let e : k ≡ k - 0 = omega arith in λ z. same (nums s w (e z) p) (nums t v (e z) q) }
 
   pub met-skips : (a b done : ℕ) → Met s w p t v q k a b done → Skips s w p t v q k done
   met-skips a b done h = (h .few, h .rest ∙ (let i = h .first in let j = h .second in λ z. same (nums s w (k - done) (i z)) (nums t v (k - done) (j z))))
-
-  pub none-skips : Skips s w p t v q k 0
-  none-skips = met-skips p q 0 met-none
 
   module _ (a b done word : ℕ) (h : Met s w p t v q k a b done) (i : 1 ≤ w) (j : w ≤ 2) (e : w ≡ v) (is : word ≡ 8 / w) (more : word ≤ k - done) where
     bytes-done : (done + word) * w ≡ done * w + 8
@@ -173,6 +169,116 @@ module _ (s : List ℕ) (w p : ℕ) (t : List ℕ) (v q k : ℕ) where
               ∙ u
               ∙ (λ z. same (nums s w (k - (done + word)) (a + c z)) (nums t (e z) (k - (done + word)) (b + c z)));
         }
+
+-- ---- characters of two widths
+xor-none : (x y : ℕ) → bitXor x y ≡ 0 → x ≡ y
+xor-none x y h = let a = xor-add-and x y in let b = and-le-l x y in let c = and-le-r x y in omega arith
+
+or-first : (x y : ℕ) → bitOr x y ≡ 0 → x ≡ 0
+or-first x y h = let a = or-add-and x y in let b = and-le-l x y in let c = and-le-r x y in omega arith
+
+or-second : (x y : ℕ) → bitOr x y ≡ 0 → y ≡ 0
+or-second x y h = let a = or-add-and x y in let b = and-le-l x y in let c = and-le-r x y in omega arith
+
+one-byte : (s : List ℕ) (a : ℕ) → numAt s 1 a ≡ getD s a 0
+unfolding numAt
+one-byte s a = omega arith
+
+module _ (s : List ℕ) (a : ℕ) (t : List ℕ) (b : ℕ) where
+  pub lane-one : (x y : ℕ) → x ≡ getD s a 0 → y ≡ numAt t 2 b → Lanes s a t b 1 (bitXor x y)
+  lane-one x y x-is y-is = record { agree = agree′ }
+    where
+      agree′ : bitXor x y ≡ 0 → (i : ℕ) → i < 1 → numAt s 1 (a + i) ≡ numAt t 2 (b + 2 * i)
+      agree′ h i l =
+          let u : a + i ≡ a = omega arith in
+          let v : b ≡ b + 2 * i = omega arith in
+          ap (numAt s 1) u ∙ one-byte s a ∙ sym x-is ∙ xor-none x y h ∙ y-is ∙ ap (numAt t 2) v
+
+  pub lanes-both : (k k′ k″ x y : ℕ) → k′ ≡ 2 * k → k″ ≡ k + k → Lanes s a t b k x → Lanes s (a + k) t (b + k′) k y → Lanes s a t b k″ (bitOr x y)
+  lanes-both k k′ k″ x y e e″ f g = record { agree = λ h i l. by h i l (ltb i k) refl }
+    where
+      by : bitOr x y ≡ 0 → (i : ℕ) → i < k″ → (c : Bool) → ltb i k ≡ c → numAt s 1 (a + i) ≡ numAt t 2 (b + 2 * i)
+      by h i l true z = f .agree (or-first x y h) i (ltb-true i k z)
+      by h i l false z =
+          let m = ltb-false i k z in
+          let u : a + i ≡ a + k + (i - k) = omega arith in
+          let v : b + k′ + 2 * (i - k) ≡ b + 2 * i = omega arith in
+          ap (numAt s 1) u ∙ g .agree (or-second x y h) (i - k) (omega arith) ∙ ap (numAt t 2) v
+
+past-lanes : (s t : List ℕ) (k m a b : ℕ) → ((i : ℕ) → i < k → numAt s 1 (a + i) ≡ numAt t 2 (b + 2 * i)) → same (nums s 1 (k + m) a) (nums t 2 (k + m) b) ≡ same (nums s 1 m (a + k)) (nums t 2 m (b + 2 * k))
+unfolding nums same
+past-lanes s t zero m a b h = let o : 0 + m ≡ m = omega arith in let i : a ≡ a + 0 = omega arith in let j : b ≡ b + 2 * 0 = omega arith in λ z. same (nums s 1 (o z) (i z)) (nums t 2 (o z) (j z))
+past-lanes s t (suc k) m a b h =
+    let o = suc-add k m in
+    let u : a ≡ a + 0 = omega arith in
+    let v : b + 2 * 0 ≡ b = omega arith in
+    let x : a + 1 + k ≡ a + suc k = omega arith in
+    let y : b + 2 + 2 * k ≡ b + 2 * suc k = omega arith in
+    (λ z. same (nums s 1 (o z) a) (nums t 2 (o z) b))
+    ∙ sym (pick-eq _ (same (nums s 1 (k + m) (a + 1)) (nums t 2 (k + m) (b + 2))) false (numAt s 1 a) (numAt t 2 b) (ap (numAt s 1) u ∙ h 0 (omega arith) ∙ ap (numAt t 2) v) refl)
+    ∙ past-lanes s t k m (a + 1) (b + 2) (λ i l. let c : a + 1 + i ≡ a + suc i = omega arith in let d : b + 2 * suc i ≡ b + 2 + 2 * i = omega arith in ap (numAt s 1) c ∙ h (suc i) (omega arith) ∙ ap (numAt t 2) d)
+    ∙ (λ z. same (nums s 1 m (x z)) (nums t 2 m (y z)))
+
+module _ (s : List ℕ) (p : ℕ) (t : List ℕ) (q k a b done : ℕ) (h : Met s 1 p t 2 q k a b done) (more : 8 ≤ k - done) where
+  pub lanes-first : p + k * 1 ≤ length s → a + 8 ≤ length s
+  lanes-first l = let x = h .first in omega arith
+
+  pub lanes-second : q + k * 2 ≤ length t → b + 16 ≤ length t
+  lanes-second l = let x = h .second in omega arith
+
+  pub lanes-met : (r : ℕ) → Lanes s a t b 8 r → r ≡ 0 → Met s 1 p t 2 q k (a + 8) (b + 16) (done + 8)
+  lanes-met r f e =
+      let n : k - done ≡ 8 + (k - (done + 8)) = (let l = h .few in omega arith) in
+      record {
+        few = omega arith;
+        first = let x = h .first in omega arith;
+        second = let x = h .second in omega arith;
+        rest = h .rest ∙ (λ z. same (nums s 1 (n z) a) (nums t 2 (n z) b)) ∙ past-lanes s t 8 (k - (done + 8)) a b (f .agree e);
+      }
+
+eqb-turned : (x y : ℕ) → eqb x y ≡ eqb y x
+eqb-turned x y = by (eqb x y) refl
+  where
+    by : (b : Bool) → eqb x y ≡ b → eqb x y ≡ eqb y x
+    by true i = i ∙ sym (eq-eqb y x (sym (eqb-true x y i)))
+    by false i = i ∙ sym (ne-eqb y x (λ e. eqb-false x y i (sym e)))
+
+same-turned : (l m : List ℕ) → same l m ≡ same m l
+unfolding same
+same-turned [] [] = refl
+same-turned [] (y ∷ m) = refl
+same-turned (x ∷ l) [] = refl
+same-turned (x ∷ l) (y ∷ m) = let e = eqb-turned x y in let r = same-turned l m in λ z. pick (e z) (r z) false
+
+module _ (s : List ℕ) (w p : ℕ) (t : List ℕ) (v q k r : ℕ) (i : 1 ≤ w) (j : w ≤ 2) (i′ : 1 ≤ v) (j′ : v ≤ 2) (apart : w ≡ v → ⊥) where
+  module _ (one : w ≡ 1) where
+    two-wide : 2 ≡ v
+    two-wide = let n : v ≡ 1 → ⊥ = (λ e. apart (one ∙ sym e)) in omega arith
+
+    pub lanes-narrow : Skips s 1 p t 2 q k r → Skips s w p t v q k r
+    lanes-narrow h = subst (λ (x : ℕ). Skips s w p t x q k r) two-wide (subst⁻¹ (λ (x : ℕ). Skips s x p t 2 q k r) one h)
+
+    pub narrow-room : p + k * w ≤ length s → p + k * 1 ≤ length s
+    narrow-room l = subst (λ (x : ℕ). p + k * x ≤ length s) one l
+
+    pub wide-room : q + k * v ≤ length t → q + k * 2 ≤ length t
+    wide-room l = subst⁻¹ (λ (x : ℕ). q + k * x ≤ length t) two-wide l
+
+  module _ (two : w ≡ 1 → ⊥) where
+    wide-two : 2 ≡ w
+    wide-two = omega arith
+
+    one-narrow : 1 ≡ v
+    one-narrow = let n : v ≡ 2 → ⊥ = (λ e. apart (sym wide-two ∙ sym e)) in omega arith
+
+    pub lanes-wide : Skips t 1 q s 2 p k r → Skips s w p t v q k r
+    lanes-wide h = subst (λ (x : ℕ). Skips s w p t x q k r) one-narrow (subst (λ (x : ℕ). Skips s x p t 1 q k r) wide-two (h .0, same-turned (nums s 2 k p) (nums t 1 k q) ∙ h .1 ∙ same-turned (nums t 1 (k - r) (q + r * 1)) (nums s 2 (k - r) (p + r * 2))))
+
+    pub turned-narrow : q + k * v ≤ length t → q + k * 1 ≤ length t
+    turned-narrow l = subst⁻¹ (λ (x : ℕ). q + k * x ≤ length t) one-narrow l
+
+    pub turned-wide : p + k * w ≤ length s → p + k * 2 ≤ length s
+    turned-wide l = subst⁻¹ (λ (x : ℕ). p + k * x ≤ length s) wide-two l
 
 -- from there on, character by character
 module _ (w p k r n : ℕ) (few : r ≤ k) (room : p + k * w ≤ n) where
@@ -255,10 +361,10 @@ module _ (s : List ℕ) (x : Chars) (p : Readable s x) (k b : ℕ) (fit : Fits (
   past-list : unitsIn s x ≡ nums s (x .width) k (x .place .at) ++ unitsIn s (pastBy x k b)
   past-list = ap listOf turn ∙ list-append (nums s (x .width) k (x .place .at)) (items 8 s true (x .width) (x .count - k) (on (x .place) b)) turn-passes
 
-  past-within : x .place .at + b ≤ x .place .end
+  pub past-within : x .place .at + b ≤ x .place .end
   past-within = let i = fit .fit in let j = p .inside .0 in omega arith
 
-  past-readable : Readable s (pastBy x k b)
+  pub past-readable : Readable s (pastBy x k b)
   past-readable = record {
     inside = (past-within, p .inside .1);
     some = p .some;
@@ -266,7 +372,7 @@ module _ (s : List ℕ) (x : Chars) (p : Readable s x) (k b : ℕ) (fit : Fits (
     passes = passes-append (nums s (x .width) k (x .place .at)) (items 8 s true (x .width) (x .count - k) (on (x .place) b)) turn-passes;
   }
 
-  past-room : x .place .at + k * x .width ≤ length s
+  pub past-room : x .place .at + k * x .width ≤ length s
   past-room = let i = past-within in let j = p .inside .1 in let m = fit .bytes in omega arith
 
 -- the two sides together: a and b are the characters where they stand, k the run
@@ -305,6 +411,12 @@ module _ (s t : List ℕ) (x y a b : Chars) (p : Ready s x a) (q : Ready t y b) 
           ∙ ap (λ (l : List ℕ). same (nums s (a .width) (k .count) (a .place .at) ++ unitsIn s (pastBy a (k .count) (k .first))) l) (q .units ∙ past-list t b (q .readable) (k .count) (k .second) there)
           ∙ same-append (nums s (a .width) (k .count) (a .place .at)) (nums t (b .width) (k .count) (b .place .at)) _ _ (nums-length s (a .width) (k .count) (a .place .at) ∙ sym (nums-length t (b .width) (k .count) (b .place .at)));
     }
+
+pub past-less : (s : List ℕ) (x a : Chars) → Ready s x a → (k b : ℕ) → Fits (a .place .end - a .place .at) (a .width) (a .count) k b → (x .count ≡ 0 → ⊥) → (c : Chars) → c ≡ pastBy a k b → c .count < x .count
+past-less s x a p k b f some c is = let i = f .some in let j = f .few in let l = p .count in let m = ap (λ (z : Chars). z .count) is in omega arith
+
+pub past-ready : (s : List ℕ) (x a : Chars) → Ready s x a → (k b : ℕ) → Fits (a .place .end - a .place .at) (a .width) (a .count) k b → (c : Chars) → c ≡ pastBy a k b → Readable s c
+past-ready s x a p k b f c is = subst⁻¹ (Readable s) is (past-readable s a (p .readable) k b f)
 
 pub parted-same : (x y r p : Bool) → x ≡ pick r y false → p ≡ r → p ≡ true → x ≡ y
 unfolding pick

@@ -1,10 +1,12 @@
 -- What the contracts speak of.
-use Prim.Native.Nat.{ℕ, _-_, _≤_}
+use Prim.Native.Nat.{ℕ, _+_, _-_, _*_, _≤_, _<_}
 use mathlib.Core.Path.{_≡_}
 use mathlib.Core.Bool.{true}
 use mathlib.Core.List.{List}
+use Rattle.bytes.specs.Bytes.{numAt}
 use Rattle.segments.specs.Segments.{listOf, on, items}
-use Rattle.segments.specs.Parts.{Inside, Passes, Fits}
+use Rattle.segments.specs.Parts.{Inside, Passes, Fits, nums}
+use Rattle.differences.specs.Differences.{same}
 use Rattle.text_equality.specs.declared.Chars.{Chars}
 use Rattle.text_equality.specs.declared.Run.{Run}
 
@@ -31,6 +33,14 @@ pastBy x k b = record { count = x .count - k; width = x .width; place = on (x .p
 pub record RunFits (here w there v n : ℕ) (r : Run) : Type 0 where
   pub here-fits : Fits here w n (r .count) (r .first)
   pub there-fits : Fits there v n (r .count) (r .second)
+
+-- where r is 0, k characters of one byte at a are those of two bytes at b
+pub record Lanes (s : List ℕ) (a : ℕ) (t : List ℕ) (b k r : ℕ) : Type 0 where
+  pub agree : r ≡ 0 → (i : ℕ) → i < k → numAt s 1 (a + i) ≡ numAt t 2 (b + 2 * i)
+
+-- so many of k characters of w bytes at p and of v bytes at q agree
+abbrev pub Skips : List ℕ → ℕ → ℕ → List ℕ → ℕ → ℕ → ℕ → ℕ → Type 0
+Skips s w p t v q k r = (r ≤ k) × (same (nums s w k p) (nums t v k q) ≡ same (nums s w (k - r) (p + r * w)) (nums t v (k - r) (q + r * v)))
 
 -- characters that stand there, with these units
 pub record ReadAs (s : List ℕ) (x : Chars) (us : List ℕ) : Type 0 where

@@ -1,6 +1,6 @@
 // Characters compared: those of two shared strings, wherever their segments part them, those of two names, and those of two text results.
 ghost use mathlib.Core.Path.{_≡_};
-ghost use Prim.Native.Nat.{_+_, _-_, _*_, _/_, _≤_};
+ghost use Prim.Native.Nat.{_+_, _-_, _*_, _/_, _≤_, _<_};
 ghost use lib.ListN.{length};
 ghost use Rattle.segments.specs.Segments.{listOf};
 ghost use Rattle.segments.specs.Parts.{Inside, Passes, nums};
@@ -8,7 +8,7 @@ ghost use Rattle.text_result.specs.TextResult.{isText, stringAt, textAt};
 ghost use Rattle.reading.specs.Reading.{saysText, textAfter};
 ghost use Rattle.differences.specs.Differences.{same, charsOf};
 ghost use Rattle.differences.specs.Units.{unitsBy};
-ghost use Rattle.text_equality.specs.Characters.{Readable, unitsIn, Ready, pastBy, RunFits, ReadAs, noChars};
+ghost use Rattle.text_equality.specs.Characters.{Readable, unitsIn, Ready, pastBy, RunFits, Lanes, Skips, ReadAs, noChars};
 use record::Header;
 use segments::Cursor;
 use segments::Moved;
@@ -44,13 +44,83 @@ fn run_of(here: usize, w: usize, there: usize, v: usize, n: usize) -> Run
     }
 }
 
-// So many of k characters at p and at q are the same, where both have w bytes: those in the words of eight bytes that agree. A long string goes by words.
+// ---- characters of two widths, eight at a time without a test between them: 0 where they agree
+
+fn lane(s: &[u8], a: usize, t: &[u8], b: usize) -> u16
+    requires { ⌜ (a + 1 ≤ length (now s)) × (b + 2 ≤ length (now t)) ⌝ }
+    ensures { λ r. ⌜ Lanes (now (s .entry)) a (now (t .entry)) b 1 r ⌝ }
+{
+    let x = bytes::byte_as_u16(s[a]);
+    let y = bytes::u16_at(t, b);
+    x ^ y
+}
+
+fn two_lanes(s: &[u8], a: usize, t: &[u8], b: usize) -> u16
+    requires { ⌜ (a + 2 ≤ length (now s)) × (b + 4 ≤ length (now t)) ⌝ }
+    ensures { λ r. ⌜ Lanes (now (s .entry)) a (now (t .entry)) b 2 r ⌝ }
+{
+    let x = lane(s, a, t, b);
+    let y = lane(s, a + 1, t, b + 2);
+    x | y
+}
+
+fn four_lanes(s: &[u8], a: usize, t: &[u8], b: usize) -> u16
+    requires { ⌜ (a + 4 ≤ length (now s)) × (b + 8 ≤ length (now t)) ⌝ }
+    ensures { λ r. ⌜ Lanes (now (s .entry)) a (now (t .entry)) b 4 r ⌝ }
+{
+    let x = two_lanes(s, a, t, b);
+    let y = two_lanes(s, a + 2, t, b + 4);
+    x | y
+}
+
+fn eight_lanes(s: &[u8], a: usize, t: &[u8], b: usize) -> u16
+    requires { ⌜ (a + 8 ≤ length (now s)) × (b + 16 ≤ length (now t)) ⌝ }
+    ensures { λ r. ⌜ Lanes (now (s .entry)) a (now (t .entry)) b 8 r ⌝ }
+{
+    let x = four_lanes(s, a, t, b);
+    let y = four_lanes(s, a + 4, t, b + 8);
+    x | y
+}
+
+// So many of k characters of one byte at p and of two at q are the same, by eights.
+fn same_eights(s: &[u8], p: usize, t: &[u8], q: usize, k: usize) -> usize
+    requires { ⌜ (p + k * 1 ≤ length (now s)) × (q + k * 2 ≤ length (now t)) ⌝ }
+    ensures { λ r. ⌜ Skips (now (s .entry)) 1 p (now (t .entry)) 2 q k r ⌝ }
+{
+    let mut a = p;
+    let mut b = q;
+    let mut done: usize = 0;
+    while 8 <= k - done {
+        if eight_lanes(s, a, t, b) != 0 {
+            return done;
+        }
+        a += 8;
+        b += 16;
+        done += 8;
+    }
+    done
+}
+
+// The same, whichever has the one byte.
+fn same_lanes(s: &[u8], w: usize, p: usize, t: &[u8], v: usize, q: usize, k: usize) -> usize
+    requires { ⌜ (1 ≤ w) × (w ≤ 2) × (p + k * w ≤ length (now s)) × (1 ≤ v) × (v ≤ 2) × (q + k * v ≤ length (now t)) × (w ≡ v → ⊥) ⌝ }
+    ensures { λ r. ⌜ Skips (now (s .entry)) w p (now (t .entry)) v q k r ⌝ }
+{
+    if w == 1 {
+        return same_eights(s, p, t, q, k);
+    }
+    same_eights(t, q, s, p, k)
+}
+
+// ---- of any widths
+
+// So many of k characters at p and at q are the same: those in the words of eight bytes that agree, where both have w bytes. A long string goes by words.
 fn same_words(s: &[u8], w: usize, p: usize, t: &[u8], v: usize, q: usize, k: usize) -> usize
     requires { ⌜ (1 ≤ w) × (w ≤ 2) × (p + k * w ≤ length (now s)) × (1 ≤ v) × (v ≤ 2) × (q + k * v ≤ length (now t)) ⌝ }
-    ensures { λ r. ⌜ (r ≤ k) × (same (nums (now (s .entry)) w k p) (nums (now (t .entry)) v k q) ≡ same (nums (now (s .entry)) w (k - r) (p + r * w)) (nums (now (t .entry)) v (k - r) (q + r * v))) ⌝ }
+    ensures { λ r. ⌜ Skips (now (s .entry)) w p (now (t .entry)) v q k r ⌝ }
 {
     if w != v {
-        return 0;
+        return same_lanes(s, w, p, t, v, q, k);
     }
     let word = chars_in(8, w);
     let mut a = p;
@@ -149,6 +219,45 @@ pub fn same_chars(s: &[u8], x: Chars, t: &[u8], y: Chars) -> bool
         }
     }
 }
+
+// ---- a number made of a string's characters, the same for the same characters: strings with two numbers needn't be compared. Only speed rests on it
+
+// From h on, by k characters more.
+fn print_run(s: &[u8], w: usize, p: usize, k: usize, h: u64) -> u64
+    requires { ⌜ (1 ≤ w) × (w ≤ 2) × (p + k * w ≤ length (now s)) × (h < 4294967296) ⌝ }
+    ensures { λ r. ⌜ r < 4294967296 ⌝ }
+{
+    let mut a = p;
+    let mut left = k;
+    let mut r = h;
+    while 0 < left {
+        let unit = bytes::u16_as_u64(segments::unit_at(s, w, a));
+        r = (r * 31 + unit) % 4294967296;
+        a += w;
+        left -= 1;
+    }
+    r
+}
+
+pub fn print(s: &[u8], x: Chars) -> u64
+    requires { ⌜ Readable (now s) x ⌝ }
+    ensures { λ r. ⌜ r < 4294967296 ⌝ }
+{
+    let mut c = x;
+    let mut h: u64 = 0;
+    loop {
+        if c.count == 0 {
+            return h;
+        }
+        let a = room_of(s, c);
+        let e = a.place;
+        let k = segments::fit_items(e.end - e.at, a.width, a.count);
+        h = print_run(s, a.width, e.at, k.count, h);
+        c = past(a, k.count, k.bytes);
+    }
+}
+
+// ---- names
 
 // How many characters of w bytes there are in n bytes.
 fn chars_in(n: usize, w: usize) -> usize

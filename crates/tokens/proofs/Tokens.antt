@@ -8,8 +8,8 @@ use lib.Bits.{bitAnd}
 use lib.ListN.{length}
 use Rattle.steps.proofs.Choice.{pick-true, pick-false, pick-lt, pick-nlt, refl′, picks}
 use Rattle.bytes.specs.Bytes.{byteAt, u16At}
-use Rattle.functions.specs.declared.Counts.{Counts}
-use Rattle.functions.specs.Counts.{countsOf}
+use Rattle.function_counts.specs.declared.Counts.{Counts}
+use Rattle.function_counts.specs.Counts.{countsOf}
 use Rattle.tokens.specs.declared.Token.{Token}
 use Rattle.tokens.specs.declared.Token.the-variants.{Plain, Invalid}
 use Rattle.tokens.specs.Tokens.{operandOf, textOf, choiceOf, baseOf, columnClear, fixedBy, fixedOf, variableBy, variableOf, innerOf, classifiedOf, tokenOf}

@@ -11,9 +11,9 @@ use lib.Dec.{eqb, lit≤}
 use lib.ListN.{length, take, drop, length-take, length-drop}
 use Rattle.steps.specs.Choice.{pick}
 use Rattle.bytes.specs.Bytes.{byteAt, u16At}
-use Rattle.functions.specs.declared.Counts.{Counts}
-use Rattle.functions.specs.declared.Counts.the-variants.{Missing, Range}
-use Rattle.functions.specs.Counts.{countsOf}
+use Rattle.function_counts.specs.declared.Counts.{Counts}
+use Rattle.function_counts.specs.declared.Counts.the-variants.{Missing, Range}
+use Rattle.function_counts.specs.Counts.{countsOf}
 use Rattle.tokens.specs.declared.Token.{Token}
 use Rattle.tokens.specs.declared.Token.the-variants.{Plain, Memory, Invalid}
 use Rattle.tokens.specs.Tokens.{uncut, operandOf, wholeOf, textOf, choiceOf, attributeBy, attributeOf, errorOf, truthOf, baseOf, referenceOf, areaOf, fixedBy, fixedOf, calledOf, variableBy, variableOf, innerOf, memoryOf, classifiedOf, tokenOf}

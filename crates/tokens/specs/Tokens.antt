@@ -8,9 +8,9 @@ use lib.ListN.{length}
 use Rattle.steps.specs.Choice.{pick}
 use Rattle.bytes.specs.Bytes.{byteAt, u16At}
 use Rattle.truth_error.specs.Boolerr.{isTruth, isError}
-use Rattle.functions.specs.declared.Counts.{Counts}
-use Rattle.functions.specs.declared.Counts.the-variants.{Missing, Range}
-use Rattle.functions.specs.Counts.{countsOf}
+use Rattle.function_counts.specs.declared.Counts.{Counts}
+use Rattle.function_counts.specs.declared.Counts.the-variants.{Missing, Range}
+use Rattle.function_counts.specs.Counts.{countsOf}
 use Rattle.tokens.specs.declared.Token.{Token}
 use Rattle.tokens.specs.declared.Token.the-variants.{Plain, Memory, Invalid}
 

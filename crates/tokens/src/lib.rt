@@ -5,7 +5,7 @@ ghost use lib.ListN.{length};
 ghost use Rattle.tokens.specs.Tokens.{operandOf, textOf, choiceOf, attributeOf, errorOf, truthOf, wholeOf, baseOf, columnClear, referenceOf, areaOf, fixedOf, calledOf, variableOf, innerOf, memoryOf, classifiedOf, tokenOf};
 ghost use Rattle.tokens.specs.Judge.{atEnd, tokensJudged};
 ghost use Rattle.tokens.specs.Parts.{plainStep, memoryStep, Right, RightStep, StepWithin};
-use functions::Counts;
+use function_counts::Counts;
 
 // The answer on a formula's bytes.
 pub enum Judgement {
@@ -193,7 +193,7 @@ fn fixed_function(t: &[u8]) -> Token
     if t.len() < 3 {
         return Token::Invalid(13);
     }
-    let counts = functions::counts_at(bytes::u16_at(t, 1));
+    let counts = function_counts::counts_at(bytes::u16_at(t, 1));
     match counts {
         Counts::Missing => Token::Invalid(15),
         Counts::Range { least, greatest } => {
@@ -227,7 +227,7 @@ fn variable_function(t: &[u8]) -> Token
         return Token::Invalid(13);
     }
     let count = t[1] & 0x7F;
-    let counts = functions::counts_at(bytes::u16_at(t, 2));
+    let counts = function_counts::counts_at(bytes::u16_at(t, 2));
     match counts {
         Counts::Missing => Token::Invalid(15),
         Counts::Range { least, greatest } => called(least, greatest, count),

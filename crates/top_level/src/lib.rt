@@ -52,7 +52,7 @@ fn zeros_from(s: &[u8], at: usize) -> bool
     true
 }
 
-pub fn bof_kind(kind: u16) -> u32
+fn bof_kind(kind: u16) -> u32
     ensures { λ r. ⌜ r ≡ bofKind kind ⌝ }
 {
     match kind {
@@ -113,7 +113,7 @@ pub fn top_at(s: &[u8], at: usize) -> Top
 }
 
 // The BOF at a place between the top-level substreams.
-pub fn bof_at(s: &[u8], unique: u32, at: usize) -> Found
+fn bof_at(s: &[u8], unique: u32, at: usize) -> Found
     ensures { λ r. ⌜ r ≡ bofAt (now (s .entry)) unique at ⌝ }
 {
     match top_at(s, at) {

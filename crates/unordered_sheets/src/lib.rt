@@ -1,35 +1,25 @@
 // The differences between the cells of two sheets in whatever order they are listed: window after window of addresses, with the records that have a cell in it in
-// lent tables.
+// lent tables. A large window takes a pass over both sheets; of its records those of a smaller window are sifted out, and so on down to a few, which are looked
+// through for each next cell. Each size is about an eighth of the one before: a record is then looked at some eight times for each.
 ghost use mathlib.Core.Path.{_≡_};
-ghost use Prim.Native.Nat.{_+_, _*_, _≤_, _<_};
+ghost use Prim.Native.Nat.{_≤_, _<_};
 ghost use lib.ListN.{length};
 ghost use Rattle.reading.specs.Cells.{placeAt, listedFrom};
-ghost use Rattle.reading.specs.Reading.{stringsAt};
+ghost use Rattle.address_windows.specs.Windows.{Hint};
 ghost use Rattle.cell_equality.specs.Equality.{Tabled, Marks};
-ghost use Rattle.cell_addresses.specs.Addresses.{AscendFrom};
-ghost use Rattle.address_windows.specs.Windows.{kept, below};
-ghost use Rattle.cell_differences.specs.Merge.{puts, putTo, wordsBetween, cellWords};
-ghost use Rattle.unordered_sheets.specs.Unordered.{Fitting};
+ghost use Rattle.cell_addresses.specs.Addresses.{Ascends};
+ghost use Rattle.cell_differences.specs.Merge.{puts, putTo, cellWords};
+ghost use Rattle.unordered_sheets.specs.Unordered.{Likely, Holds, Staged, Parted};
+use address_windows::Gathered;
 
-// Whether the records of a window fit into the tables. If not, half of its width is tried; a window of one address is left alone.
-pub enum Fit {
-    Fits,
-    Halve,
-    Alone,
-}
-
-fn fit_of(x: usize, y: usize, room: usize, width: u64) -> Fit
-    ensures { λ r. ⌜ Fitting x y room width r ⌝ }
-{
-    if x <= room {
-        if y <= room {
-            return Fit::Fits;
-        }
-    }
-    if width < 2 {
-        return Fit::Alone;
-    }
-    Fit::Halve
+// A window that two tables hold: where it ends, and x records of the one sheet and y of the other. The next is likely to have its first cell at `near`, and tries so
+// many addresses from there on; both are guesses, and nothing but the time taken depends on them.
+pub struct Held {
+    pub high: u64,
+    pub x: usize,
+    pub y: usize,
+    pub near: u64,
+    pub width: u64,
 }
 
 // No cell that passes has a column over 255: what is past it counts as the next row.
@@ -43,12 +33,20 @@ fn column_of(a: u64) -> u64
     256
 }
 
-// The end of a window of so many addresses, of which a row has 256.
-fn end_of(low: u64, width: u64, top: u64) -> u64
-    requires { ⌜ (low < top) × (top ≤ 4294967296) × (1 ≤ width) × (width ≤ 4294967296) ⌝ }
+// The addresses of a row that count are 256.
+fn index_of(a: u64) -> u64
+    requires { ⌜ a ≤ 4294967296 ⌝ }
+    ensures { λ r. ⌜ r ≤ 16777472 ⌝ }
+{
+    a / 65536 * 256 + column_of(a)
+}
+
+// The end of a window of so many addresses from `near` on.
+fn end_of(low: u64, near: u64, width: u64, top: u64) -> u64
+    requires { ⌜ (low < top) × (top ≤ 4294967296) × Likely near width ⌝ }
     ensures { λ r. ⌜ (low < r) × (r ≤ top) ⌝ }
 {
-    let k = low / 65536 * 256 + column_of(low) + width;
+    let k = index_of(near) + width;
     let r = k / 256 * 65536 + k % 256;
     if r <= low {
         return top;
@@ -59,57 +57,186 @@ fn end_of(low: u64, width: u64, top: u64) -> u64
     r
 }
 
-// How wide a window to try next: four times as wide where the last one left both tables almost empty, a quarter wider where it left a quarter of both empty.
-fn wider(width: u64, x: usize, y: usize, room: usize) -> u64
-    requires { ⌜ (1 ≤ width) × (width ≤ 4294967296) ⌝ }
+// How wide a window to try after one with so many records from `near` to `high`: in proportion, with a sixteenth of the table to spare, and at most eight times as wide.
+// A table that is full is squeezed, so that one place at least is to spare.
+fn wider(near: u64, high: u64, count: usize, room: usize) -> u64
+    requires { ⌜ (near ≤ 4294967296) × (high ≤ 4294967296) × (room ≤ 65536) ⌝ }
     ensures { λ r. ⌜ (1 ≤ r) × (r ≤ 4294967296) ⌝ }
 {
-    if width <= 1073741824 {
-        if x <= room / 8 {
-            if y <= room / 8 {
-                return width * 4;
-            }
-        }
+    let a = index_of(near);
+    let b = index_of(high);
+    if b <= a {
+        return 1;
     }
-    if width <= 2147483648 {
-        if x <= room / 4 * 3 {
-            if y <= room / 4 * 3 {
-                return width + width / 4;
-            }
-        }
+    let tried = b - a;
+    let spare = room / 16 + 1;
+    if room <= spare {
+        return tried;
     }
-    width
+    let full = room - spare;
+    if count <= full / 8 {
+        return tried * 8;
+    }
+    let r = tried * (full as u64) / (count as u64);
+    if r < 1 {
+        return 1;
+    }
+    if 4294967296 < r {
+        return 4294967296;
+    }
+    r
 }
 
-// Two sheets whose addresses ascend: by the sheets themselves, in one pass.
-fn merge_ascending(
+fn lesser(a: u64, b: u64) -> u64
+    requires { ⌜ (a ≤ 4294967296) × (b ≤ 4294967296) ⌝ }
+    ensures { λ r. ⌜ r ≤ 4294967296 ⌝ }
+{
+    if a < b {
+        return a;
+    }
+    b
+}
+
+fn greater(a: usize, b: usize) -> usize {
+    if a < b {
+        return b;
+    }
+    a
+}
+
+// Before the first window.
+fn none(from: u64) -> Held
+    requires { ⌜ from ≤ 4294967296 ⌝ }
+    ensures { λ r. ⌜ (r .high ≡ 0) × (r .x ≡ 0) × (r .y ≡ 0) × Likely (r .near) (r .width) ⌝ }
+{
+    Held {
+        high: 0,
+        x: 0,
+        y: 0,
+        near: from,
+        width: 4294967296,
+    }
+}
+
+// What the two tables took, the second of as much as the first had room for. Where it ended the window sooner, the first says nothing of what comes next.
+fn both_of(x: Gathered, y: Gathered, near: u64, room: usize) -> Held
+    requires { ⌜ Hint (x .high) (x .next) × Hint (y .high) (y .next) × (near ≤ 4294967296) × (room ≤ 65536) ⌝ }
+    ensures { λ r. ⌜ (r .high ≡ y .high) × (r .x ≡ x .count) × (r .y ≡ y .count) × Likely (r .near) (r .width) ⌝ }
+{
+    let high = y.high;
+    if high < x.high {
+        return Held {
+            high,
+            x: x.count,
+            y: y.count,
+            near: high,
+            width: wider(near, high, y.count, room),
+        };
+    }
+    Held {
+        high,
+        x: x.count,
+        y: y.count,
+        near: lesser(x.next, y.next),
+        width: wider(near, high, greater(x.count, y.count), room),
+    }
+}
+
+// The records of the next large window into its tables, where the last one is done.
+fn wide_window(
+    s: &[u8],
+    v: usize,
+    t: &[u8],
+    w: usize,
+    lo: u64,
+    h: Held,
+    a: &mut [u32],
+    b: &mut [u32],
+) -> Held
+    requires { ⌜ Holds (now s) (now t) (listedFrom (now s) (placeAt v 0)) (listedFrom (now t) (placeAt w 0)) (now a) (now b) lo h × (lo < 4294967296) × (length (now a) ≤ 65536) ⌝ }
+    ensures { λ r. ⌜ Staged (now (s .entry)) (now (t .entry)) (listedFrom (now (s .entry)) (placeAt v 0)) (listedFrom (now (t .entry)) (placeAt w 0)) (now (a .entry)) (now (b .entry)) (now (a .exit)) (now (b .exit)) lo r ⌝ }
+{
+    if lo < h.high {
+        return h;
+    }
+    let near = h.near;
+    let hi = end_of(lo, near, h.width, 4294967296);
+    let x = address_windows::fill(s, v, lo, hi, a);
+    let y = address_windows::fill(t, w, lo, x.high, b);
+    both_of(x, y, near, a.len())
+}
+
+// A guess that lies past the larger window is none.
+fn start_of(near: u64, lo: u64, top: u64) -> u64
+    requires { ⌜ (lo < top) × (top ≤ 4294967296) ⌝ }
+    ensures { λ r. ⌜ r ≤ 4294967296 ⌝ }
+{
+    if near < top {
+        return near;
+    }
+    lo
+}
+
+// Of the records of a larger window, which ends at `top`, those of the next smaller one into its tables, where the last one is done.
+fn part_window(
+    s: &[u8],
+    a: &[u32],
+    ac: usize,
+    t: &[u8],
+    b: &[u32],
+    bc: usize,
+    top: u64,
+    lo: u64,
+    h: Held,
+    c: &mut [u32],
+    d: &mut [u32],
+) -> Held
+    requires { ⌜ (ac ≤ length (now a)) × (bc ≤ length (now b)) × (top ≤ 4294967296) × Likely (h .near) (h .width) × (length (now c) ≤ 65536) ⌝ }
+    ensures { λ r. ⌜ Parted (now (s .entry)) (now (t .entry)) (now (a .entry)) ac (now (b .entry)) bc top (now (c .entry)) (now (d .entry)) h (now (c .exit)) (now (d .exit)) lo r ⌝ }
+{
+    if lo < h.high {
+        return h;
+    }
+    if top <= lo {
+        return h;
+    }
+    let near = start_of(h.near, lo, top);
+    let hi = end_of(lo, near, h.width, top);
+    let x = address_windows::sift(s, a, ac, lo, hi, c);
+    let y = address_windows::sift(t, b, bc, lo, x.high, d);
+    both_of(x, y, near, c.len())
+}
+
+// By the sheets themselves, without a table: in one pass where their addresses ascend, else with a pass for each cell. That is for sheets with more cells at one address than a table has room for.
+fn merge_sheets(
+    up: bool,
     s: &[u8],
     v: usize,
     p: usize,
     m: u32,
-    z: &[u32; 3072],
+    z: &[u32; 3456],
     f: usize,
     t: &[u8],
     w: usize,
     q: usize,
     n: u32,
-    u: &[u32; 3072],
+    u: &[u32; 3456],
     g: usize,
     base: u64,
     from: u64,
     i: usize,
     out: &mut [u64],
 ) -> usize
-    requires { ⌜ Tabled (now s) p m × Marks (now s) p m f (now z) × Tabled (now t) q n × Marks (now t) q n g (now u) × (base < 576460752303423488) × (from ≤ 4294967296) × AscendFrom 0 (listedFrom (now s) (placeAt v 0)) × AscendFrom 0 (listedFrom (now t) (placeAt w 0)) ⌝ }
-    ensures { λ r. ⌜ r ≡ putTo (length (now (out .entry))) i (wordsBetween (now (s .entry)) (now (t .entry)) (stringsAt (now (s .entry)) p) (stringsAt (now (t .entry)) q) (listedFrom (now (s .entry)) (placeAt v 0)) (listedFrom (now (t .entry)) (placeAt w 0)) base from) ⌝ }
-    ensures { λ r. ⌜ now (out .exit) ≡ puts (now (out .entry)) i (wordsBetween (now (s .entry)) (now (t .entry)) (stringsAt (now (s .entry)) p) (stringsAt (now (t .entry)) q) (listedFrom (now (s .entry)) (placeAt v 0)) (listedFrom (now (t .entry)) (placeAt w 0)) base from) ⌝ }
+    requires { ⌜ Tabled (now s) p m × Marks (now s) p (now s) p m f (now z) × Tabled (now t) q n × Marks (now s) p (now t) q n g (now u) × (base < 576460752303423488) × (from ≤ 4294967296) × Ascends (listedFrom (now s) (placeAt v 0)) up × Ascends (listedFrom (now t) (placeAt w 0)) up ⌝ }
+    ensures { λ r. ⌜ r ≡ putTo (length (now (out .entry))) i (cellWords (now (s .entry)) v p (now (t .entry)) w q base from) ⌝ }
+    ensures { λ r. ⌜ now (out .exit) ≡ puts (now (out .entry)) i (cellWords (now (s .entry)) v p (now (t .entry)) w q base from) ⌝ }
 {
     let none = [0u32; 1];
     let nothing = [0u32; 1];
     cell_differences::merge(
         s,
         v,
-        true,
+        up,
         &none[0..0],
         0,
         p,
@@ -118,7 +245,7 @@ fn merge_ascending(
         f,
         t,
         w,
-        true,
+        up,
         &nothing[0..0],
         0,
         q,
@@ -133,477 +260,117 @@ fn merge_ascending(
     )
 }
 
-// By the sheets themselves, a pass for each cell: where more records have one address than a table has room for.
-fn merge_bare(
+// One small window after the other.
+fn merge_windows(
     s: &[u8],
     v: usize,
     p: usize,
     m: u32,
-    z: &[u32; 3072],
+    z: &[u32; 3456],
     f: usize,
     t: &[u8],
     w: usize,
     q: usize,
     n: u32,
-    u: &[u32; 3072],
-    g: usize,
-    base: u64,
-    from: u64,
-    i: usize,
-    out: &mut [u64],
-) -> usize
-    requires { ⌜ Tabled (now s) p m × Marks (now s) p m f (now z) × Tabled (now t) q n × Marks (now t) q n g (now u) × (base < 576460752303423488) × (from ≤ 4294967296) ⌝ }
-    ensures { λ r. ⌜ r ≡ putTo (length (now (out .entry))) i (wordsBetween (now (s .entry)) (now (t .entry)) (stringsAt (now (s .entry)) p) (stringsAt (now (t .entry)) q) (listedFrom (now (s .entry)) (placeAt v 0)) (listedFrom (now (t .entry)) (placeAt w 0)) base from) ⌝ }
-    ensures { λ r. ⌜ now (out .exit) ≡ puts (now (out .entry)) i (wordsBetween (now (s .entry)) (now (t .entry)) (stringsAt (now (s .entry)) p) (stringsAt (now (t .entry)) q) (listedFrom (now (s .entry)) (placeAt v 0)) (listedFrom (now (t .entry)) (placeAt w 0)) base from) ⌝ }
-{
-    let none = [0u32; 1];
-    let nothing = [0u32; 1];
-    cell_differences::merge(
-        s,
-        v,
-        false,
-        &none[0..0],
-        0,
-        p,
-        m,
-        z,
-        f,
-        t,
-        w,
-        false,
-        &nothing[0..0],
-        0,
-        q,
-        n,
-        u,
-        g,
-        base,
-        from,
-        4294967296,
-        i,
-        out,
-    )
-}
-
-// Of the records of two tables, those of one small window after the other into two small tables.
-fn merge_close(
-    s: &[u8],
-    v: usize,
-    a: &[u32],
-    ac: usize,
-    p: usize,
-    m: u32,
-    z: &[u32; 3072],
-    f: usize,
-    t: &[u8],
-    w: usize,
-    b: &[u32],
-    bc: usize,
-    q: usize,
-    n: u32,
-    u: &[u32; 3072],
-    g: usize,
-    base: u64,
-    low: u64,
-    high: u64,
-    c: &mut [u32],
-    d: &mut [u32],
-    i: usize,
-    out: &mut [u64],
-) -> usize
-    requires { ⌜ Tabled (now s) p m × Marks (now s) p m f (now z) × Tabled (now t) q n × Marks (now t) q n g (now u) × (base < 576460752303423488) × (low ≤ high) × (high ≤ 4294967296) × (ac ≤ length (now a)) × (bc ≤ length (now b)) × (length (now a) ≡ 416) × (length (now b) ≡ 416) × (length (now c) ≡ 32) × (length (now d) ≡ 32) ⌝ }
-    ensures { λ r. ⌜ r ≡ putTo (length (now (out .entry))) i (wordsBetween (now (s .entry)) (now (t .entry)) (stringsAt (now (s .entry)) p) (stringsAt (now (t .entry)) q) (below high (kept (now (s .entry)) (now (a .entry)) ac)) (below high (kept (now (t .entry)) (now (b .entry)) bc)) base low) ⌝ }
-    ensures { λ r. ⌜ now (out .exit) ≡ puts (now (out .entry)) i (wordsBetween (now (s .entry)) (now (t .entry)) (stringsAt (now (s .entry)) p) (stringsAt (now (t .entry)) q) (below high (kept (now (s .entry)) (now (a .entry)) ac)) (below high (kept (now (t .entry)) (now (b .entry)) bc)) base low) ⌝ }
-{
-    let mut lo = low;
-    let mut width: u64 = 4294967296;
-    let mut j = i;
-    while lo < high {
-        if out.len() < j {
-            return j;
-        }
-        let hi = end_of(lo, width, high);
-        let x = address_windows::sift(s, a, ac, lo, hi, c);
-        let y = address_windows::sift(t, b, bc, lo, hi, d);
-        match fit_of(x, y, 32, width) {
-            Fit::Fits => {
-                j = cell_differences::merge(
-                    s,
-                    v,
-                    false,
-                    c,
-                    x,
-                    p,
-                    m,
-                    z,
-                    f,
-                    t,
-                    w,
-                    false,
-                    d,
-                    y,
-                    q,
-                    n,
-                    u,
-                    g,
-                    base,
-                    lo,
-                    hi,
-                    j,
-                    out,
-                );
-                lo = hi;
-                width = wider(width, x, y, 32);
-            }
-            Fit::Halve => {
-                width = width / 2;
-            }
-            Fit::Alone => {
-                return cell_differences::merge(
-                    s,
-                    v,
-                    false,
-                    a,
-                    ac,
-                    p,
-                    m,
-                    z,
-                    f,
-                    t,
-                    w,
-                    false,
-                    b,
-                    bc,
-                    q,
-                    n,
-                    u,
-                    g,
-                    base,
-                    lo,
-                    high,
-                    j,
-                    out,
-                );
-            }
-        }
-    }
-    j
-}
-
-fn merge_near(
-    s: &[u8],
-    v: usize,
-    a: &[u32],
-    ac: usize,
-    p: usize,
-    m: u32,
-    z: &[u32; 3072],
-    f: usize,
-    t: &[u8],
-    w: usize,
-    b: &[u32],
-    bc: usize,
-    q: usize,
-    n: u32,
-    u: &[u32; 3072],
-    g: usize,
-    base: u64,
-    low: u64,
-    high: u64,
-    i: usize,
-    out: &mut [u64],
-) -> usize
-    requires { ⌜ Tabled (now s) p m × Marks (now s) p m f (now z) × Tabled (now t) q n × Marks (now t) q n g (now u) × (base < 576460752303423488) × (low ≤ high) × (high ≤ 4294967296) × (ac ≤ length (now a)) × (bc ≤ length (now b)) × (length (now a) ≡ 416) × (length (now b) ≡ 416) ⌝ }
-    ensures { λ r. ⌜ r ≡ putTo (length (now (out .entry))) i (wordsBetween (now (s .entry)) (now (t .entry)) (stringsAt (now (s .entry)) p) (stringsAt (now (t .entry)) q) (below high (kept (now (s .entry)) (now (a .entry)) ac)) (below high (kept (now (t .entry)) (now (b .entry)) bc)) base low) ⌝ }
-    ensures { λ r. ⌜ now (out .exit) ≡ puts (now (out .entry)) i (wordsBetween (now (s .entry)) (now (t .entry)) (stringsAt (now (s .entry)) p) (stringsAt (now (t .entry)) q) (below high (kept (now (s .entry)) (now (a .entry)) ac)) (below high (kept (now (t .entry)) (now (b .entry)) bc)) base low) ⌝ }
-{
-    let mut c = [0u32; 32];
-    let mut d = [0u32; 32];
-    merge_close(
-        s,
-        v,
-        a,
-        ac,
-        p,
-        m,
-        z,
-        f,
-        t,
-        w,
-        b,
-        bc,
-        q,
-        n,
-        u,
-        g,
-        base,
-        low,
-        high,
-        &mut c,
-        &mut d,
-        i,
-        out,
-    )
-}
-
-// The same for a larger window, with tables between the large ones and the small ones: the records of a table lie far apart, and each pass over them is dear.
-fn merge_middle(
-    s: &[u8],
-    v: usize,
-    a: &[u32],
-    ac: usize,
-    p: usize,
-    m: u32,
-    z: &[u32; 3072],
-    f: usize,
-    t: &[u8],
-    w: usize,
-    b: &[u32],
-    bc: usize,
-    q: usize,
-    n: u32,
-    u: &[u32; 3072],
-    g: usize,
-    base: u64,
-    low: u64,
-    high: u64,
-    c: &mut [u32],
-    d: &mut [u32],
-    i: usize,
-    out: &mut [u64],
-) -> usize
-    requires { ⌜ Tabled (now s) p m × Marks (now s) p m f (now z) × Tabled (now t) q n × Marks (now t) q n g (now u) × (base < 576460752303423488) × (low ≤ high) × (high ≤ 4294967296) × (ac ≤ length (now a)) × (bc ≤ length (now b)) × (length (now a) ≡ 3328) × (length (now b) ≡ 3328) × (length (now c) ≡ 416) × (length (now d) ≡ 416) ⌝ }
-    ensures { λ r. ⌜ r ≡ putTo (length (now (out .entry))) i (wordsBetween (now (s .entry)) (now (t .entry)) (stringsAt (now (s .entry)) p) (stringsAt (now (t .entry)) q) (below high (kept (now (s .entry)) (now (a .entry)) ac)) (below high (kept (now (t .entry)) (now (b .entry)) bc)) base low) ⌝ }
-    ensures { λ r. ⌜ now (out .exit) ≡ puts (now (out .entry)) i (wordsBetween (now (s .entry)) (now (t .entry)) (stringsAt (now (s .entry)) p) (stringsAt (now (t .entry)) q) (below high (kept (now (s .entry)) (now (a .entry)) ac)) (below high (kept (now (t .entry)) (now (b .entry)) bc)) base low) ⌝ }
-{
-    let mut lo = low;
-    let mut width: u64 = 4294967296;
-    let mut j = i;
-    while lo < high {
-        if out.len() < j {
-            return j;
-        }
-        let hi = end_of(lo, width, high);
-        let x = address_windows::sift(s, a, ac, lo, hi, c);
-        let y = address_windows::sift(t, b, bc, lo, hi, d);
-        match fit_of(x, y, 416, width) {
-            Fit::Fits => {
-                j = merge_near(
-                    s,
-                    v,
-                    c,
-                    x,
-                    p,
-                    m,
-                    z,
-                    f,
-                    t,
-                    w,
-                    d,
-                    y,
-                    q,
-                    n,
-                    u,
-                    g,
-                    base,
-                    lo,
-                    hi,
-                    j,
-                    out,
-                );
-                lo = hi;
-                width = wider(width, x, y, 416);
-            }
-            Fit::Halve => {
-                width = width / 2;
-            }
-            Fit::Alone => {
-                return cell_differences::merge(
-                    s,
-                    v,
-                    false,
-                    a,
-                    ac,
-                    p,
-                    m,
-                    z,
-                    f,
-                    t,
-                    w,
-                    false,
-                    b,
-                    bc,
-                    q,
-                    n,
-                    u,
-                    g,
-                    base,
-                    lo,
-                    high,
-                    j,
-                    out,
-                );
-            }
-        }
-    }
-    j
-}
-
-fn merge_far(
-    s: &[u8],
-    v: usize,
-    a: &[u32],
-    ac: usize,
-    p: usize,
-    m: u32,
-    z: &[u32; 3072],
-    f: usize,
-    t: &[u8],
-    w: usize,
-    b: &[u32],
-    bc: usize,
-    q: usize,
-    n: u32,
-    u: &[u32; 3072],
-    g: usize,
-    base: u64,
-    low: u64,
-    high: u64,
-    i: usize,
-    out: &mut [u64],
-) -> usize
-    requires { ⌜ Tabled (now s) p m × Marks (now s) p m f (now z) × Tabled (now t) q n × Marks (now t) q n g (now u) × (base < 576460752303423488) × (low ≤ high) × (high ≤ 4294967296) × (ac ≤ length (now a)) × (bc ≤ length (now b)) × (length (now a) ≡ 3328) × (length (now b) ≡ 3328) ⌝ }
-    ensures { λ r. ⌜ r ≡ putTo (length (now (out .entry))) i (wordsBetween (now (s .entry)) (now (t .entry)) (stringsAt (now (s .entry)) p) (stringsAt (now (t .entry)) q) (below high (kept (now (s .entry)) (now (a .entry)) ac)) (below high (kept (now (t .entry)) (now (b .entry)) bc)) base low) ⌝ }
-    ensures { λ r. ⌜ now (out .exit) ≡ puts (now (out .entry)) i (wordsBetween (now (s .entry)) (now (t .entry)) (stringsAt (now (s .entry)) p) (stringsAt (now (t .entry)) q) (below high (kept (now (s .entry)) (now (a .entry)) ac)) (below high (kept (now (t .entry)) (now (b .entry)) bc)) base low) ⌝ }
-{
-    let mut c = [0u32; 416];
-    let mut d = [0u32; 416];
-    merge_middle(
-        s,
-        v,
-        a,
-        ac,
-        p,
-        m,
-        z,
-        f,
-        t,
-        w,
-        b,
-        bc,
-        q,
-        n,
-        u,
-        g,
-        base,
-        low,
-        high,
-        &mut c,
-        &mut d,
-        i,
-        out,
-    )
-}
-
-// The records of one large window after the other into two tables.
-fn merge_wide(
-    s: &[u8],
-    v: usize,
-    p: usize,
-    m: u32,
-    z: &[u32; 3072],
-    f: usize,
-    t: &[u8],
-    w: usize,
-    q: usize,
-    n: u32,
-    u: &[u32; 3072],
+    u: &[u32; 3456],
     g: usize,
     base: u64,
     from: u64,
     a: &mut [u32],
     b: &mut [u32],
+    c: &mut [u32],
+    d: &mut [u32],
+    e: &mut [u32],
+    h: &mut [u32],
+    k: &mut [u32],
+    l: &mut [u32],
     i: usize,
     out: &mut [u64],
 ) -> usize
-    requires { ⌜ Tabled (now s) p m × Marks (now s) p m f (now z) × Tabled (now t) q n × Marks (now t) q n g (now u) × (base < 576460752303423488) × (from ≤ 4294967296) × (length (now a) ≡ 3328) × (length (now b) ≡ 3328) ⌝ }
-    ensures { λ r. ⌜ r ≡ putTo (length (now (out .entry))) i (wordsBetween (now (s .entry)) (now (t .entry)) (stringsAt (now (s .entry)) p) (stringsAt (now (t .entry)) q) (listedFrom (now (s .entry)) (placeAt v 0)) (listedFrom (now (t .entry)) (placeAt w 0)) base from) ⌝ }
-    ensures { λ r. ⌜ now (out .exit) ≡ puts (now (out .entry)) i (wordsBetween (now (s .entry)) (now (t .entry)) (stringsAt (now (s .entry)) p) (stringsAt (now (t .entry)) q) (listedFrom (now (s .entry)) (placeAt v 0)) (listedFrom (now (t .entry)) (placeAt w 0)) base from) ⌝ }
+    requires { ⌜ Tabled (now s) p m × Marks (now s) p (now s) p m f (now z) × Tabled (now t) q n × Marks (now s) p (now t) q n g (now u) × (base < 576460752303423488) × (from ≤ 4294967296) × (length (now a) ≤ 65536) × (length (now c) ≤ 65536) × (length (now e) ≤ 65536) × (length (now k) ≡ 8) × (length (now l) ≡ 8) ⌝ }
+    ensures { λ r. ⌜ r ≡ putTo (length (now (out .entry))) i (cellWords (now (s .entry)) v p (now (t .entry)) w q base from) ⌝ }
+    ensures { λ r. ⌜ now (out .exit) ≡ puts (now (out .entry)) i (cellWords (now (s .entry)) v p (now (t .entry)) w q base from) ⌝ }
 {
     let mut lo = from;
-    let mut width: u64 = 4294967296;
     let mut j = i;
+    let mut far = none(from);
+    let mut middle = none(from);
+    let mut close = none(from);
+    let mut near = none(from);
     while lo < 4294967296 {
         if out.len() < j {
             return j;
         }
-        let hi = end_of(lo, width, 4294967296);
-        let x = address_windows::fill(s, v, lo, hi, a);
-        let y = address_windows::fill(t, w, lo, hi, b);
-        match fit_of(x, y, 3328, width) {
-            Fit::Fits => {
-                j = merge_far(
-                    s,
-                    v,
-                    a,
-                    x,
-                    p,
-                    m,
-                    z,
-                    f,
-                    t,
-                    w,
-                    b,
-                    y,
-                    q,
-                    n,
-                    u,
-                    g,
-                    base,
-                    lo,
-                    hi,
-                    j,
-                    out,
-                );
-                lo = hi;
-                width = wider(width, x, y, 3328);
-            }
-            Fit::Halve => {
-                width = width / 2;
-            }
-            Fit::Alone => {
-                return merge_bare(s, v, p, m, z, f, t, w, q, n, u, g, base, lo, j, out);
-            }
+        far = wide_window(s, v, t, w, lo, far, a, b);
+        middle = part_window(s, a, far.x, t, b, far.y, far.high, lo, middle, c, d);
+        close = part_window(s, c, middle.x, t, d, middle.y, middle.high, lo, close, e, h);
+        near = part_window(s, e, close.x, t, h, close.y, close.high, lo, near, k, l);
+        let high = near.high;
+        if high <= lo {
+            return merge_sheets(false, s, v, p, m, z, f, t, w, q, n, u, g, base, lo, j, out);
         }
+        j = cell_differences::merge(
+            s,
+            v,
+            false,
+            k,
+            near.x,
+            p,
+            m,
+            z,
+            f,
+            t,
+            w,
+            false,
+            l,
+            near.y,
+            q,
+            n,
+            u,
+            g,
+            base,
+            lo,
+            high,
+            j,
+            out,
+        );
+        lo = high;
     }
     j
 }
 
+// The tables: the larger the first two, the fewer passes over the sheets; the last two are looked through for each cell.
 fn with_tables(
     s: &[u8],
     v: usize,
     p: usize,
     m: u32,
-    z: &[u32; 3072],
+    z: &[u32; 3456],
     f: usize,
     t: &[u8],
     w: usize,
     q: usize,
     n: u32,
-    u: &[u32; 3072],
+    u: &[u32; 3456],
     g: usize,
     base: u64,
     from: u64,
     i: usize,
     out: &mut [u64],
 ) -> usize
-    requires { ⌜ Tabled (now s) p m × Marks (now s) p m f (now z) × Tabled (now t) q n × Marks (now t) q n g (now u) × (base < 576460752303423488) × (from ≤ 4294967296) ⌝ }
-    ensures { λ r. ⌜ r ≡ putTo (length (now (out .entry))) i (wordsBetween (now (s .entry)) (now (t .entry)) (stringsAt (now (s .entry)) p) (stringsAt (now (t .entry)) q) (listedFrom (now (s .entry)) (placeAt v 0)) (listedFrom (now (t .entry)) (placeAt w 0)) base from) ⌝ }
-    ensures { λ r. ⌜ now (out .exit) ≡ puts (now (out .entry)) i (wordsBetween (now (s .entry)) (now (t .entry)) (stringsAt (now (s .entry)) p) (stringsAt (now (t .entry)) q) (listedFrom (now (s .entry)) (placeAt v 0)) (listedFrom (now (t .entry)) (placeAt w 0)) base from) ⌝ }
+    requires { ⌜ Tabled (now s) p m × Marks (now s) p (now s) p m f (now z) × Tabled (now t) q n × Marks (now s) p (now t) q n g (now u) × (base < 576460752303423488) × (from ≤ 4294967296) ⌝ }
+    ensures { λ r. ⌜ r ≡ putTo (length (now (out .entry))) i (cellWords (now (s .entry)) v p (now (t .entry)) w q base from) ⌝ }
+    ensures { λ r. ⌜ now (out .exit) ≡ puts (now (out .entry)) i (cellWords (now (s .entry)) v p (now (t .entry)) w q base from) ⌝ }
 {
     let mut a = [0u32; 3328];
     let mut b = [0u32; 3328];
-    merge_wide(
+    let mut c = [0u32; 416];
+    let mut d = [0u32; 416];
+    let mut e = [0u32; 56];
+    let mut h = [0u32; 56];
+    let mut k = [0u32; 8];
+    let mut l = [0u32; 8];
+    merge_windows(
         s,
         v,
         p,
@@ -620,6 +387,12 @@ fn with_tables(
         from,
         &mut a,
         &mut b,
+        &mut c,
+        &mut d,
+        &mut e,
+        &mut h,
+        &mut k,
+        &mut l,
         i,
         out,
     )
@@ -633,26 +406,26 @@ pub fn merge_cells(
     v: usize,
     p: usize,
     m: u32,
-    z: &[u32; 3072],
+    z: &[u32; 3456],
     f: usize,
     t: &[u8],
     w: usize,
     q: usize,
     n: u32,
-    u: &[u32; 3072],
+    u: &[u32; 3456],
     g: usize,
     base: u64,
     from: u64,
     i: usize,
     out: &mut [u64],
 ) -> usize
-    requires { ⌜ Tabled (now s) p m × Marks (now s) p m f (now z) × Tabled (now t) q n × Marks (now t) q n g (now u) × (base < 576460752303423488) × (from ≤ 4294967296) ⌝ }
+    requires { ⌜ Tabled (now s) p m × Marks (now s) p (now s) p m f (now z) × Tabled (now t) q n × Marks (now s) p (now t) q n g (now u) × (base < 576460752303423488) × (from ≤ 4294967296) ⌝ }
     ensures { λ r. ⌜ r ≡ putTo (length (now (out .entry))) i (cellWords (now (s .entry)) v p (now (t .entry)) w q base from) ⌝ }
     ensures { λ r. ⌜ now (out .exit) ≡ puts (now (out .entry)) i (cellWords (now (s .entry)) v p (now (t .entry)) w q base from) ⌝ }
 {
     if cell_addresses::ascends(s, v) {
         if cell_addresses::ascends(t, w) {
-            return merge_ascending(s, v, p, m, z, f, t, w, q, n, u, g, base, from, i, out);
+            return merge_sheets(true, s, v, p, m, z, f, t, w, q, n, u, g, base, from, i, out);
         }
     }
     with_tables(s, v, p, m, z, f, t, w, q, n, u, g, base, from, i, out)

@@ -5,12 +5,12 @@ use mathlib.Core.List.{List, [], _∷_}
 use mathlib.Core.Bool.{Bool, true, false, _||_}
 use native.Mathlib.Omega.{arith}
 use native.Mathlib.Nat.{div-lt-iff-lt-mul}
-use lib.ListN.{length, getD}
+use lib.ListN.{length}
 use lib.Dec.{eqb}
 use borrow.Author.Tests.{eqb-true, eqb-false, eq-eqb, ne-eqb}
 use Rattle.steps.specs.Choice.{pick}
 use Rattle.steps.proofs.Choice.{pick-any, pick-false}
-use Rattle.bytes.specs.Bytes.{numAt, u32At}
+use Rattle.bytes.specs.Bytes.{u32At}
 use Rattle.new_stream.specs.Entries.{entriesFrom, entriesOf}
 use Rattle.new_stream.specs.Compact.{onText, textsIn, uses, usedBelow}
 use Rattle.new_table.specs.NewTable.{marksFrom}
@@ -25,17 +25,7 @@ use Rattle.flags.specs.Flags.{flagAt, flagsFrom, setBelow}
 use Rattle.flags.specs.Parts.{SetOne, zeros}
 use Rattle.flags.proofs.Clearing.{zeros-length, flag-none}
 use Rattle.used_strings.specs.Marked.{Marked, Flagged}
-use Rattle.used_strings.proofs.Walking.{entries-are, ahead-are, rest-are}
-
--- ---- the number at a place
-pub byte-none : (s : List ℕ) (i : ℕ) → length s ≤ i → 0 ≡ getD s i 0
-byte-none [] i h = refl
-byte-none (x ∷ s) zero h = absurd (omega arith)
-byte-none (x ∷ s) (suc i) h = byte-none s i (omega arith)
-
-pub word-is : (s : List ℕ) (p a b c d : ℕ) → a ≡ getD s p 0 → b ≡ getD s (p + 1) 0 → c ≡ getD s (p + 1 + 1) 0 → d ≡ getD s (p + 1 + 1 + 1) 0 → a + 256 * (b + 256 * (c + 256 * d)) ≡ u32At s p
-unfolding numAt
-word-is s p a b c d e f g h = omega arith
+use Rattle.new_places.proofs.Walking.{entries-are, ahead-are, rest-are}
 
 -- ---- one index
 same-test : (i base k : ℕ) → base ≤ i → eqb k (i - base) ≡ eqb i (base + k)

@@ -1,9 +1,7 @@
 // Which strings are used: flags for the indices from a first one on, by one walk of the stream's records.
-ghost use mathlib.Core.Path.{_≡_};
 ghost use mathlib.Core.List.{[], _∷_};
 ghost use Prim.Native.Nat.{_+_, _≤_, _<_};
-ghost use lib.ListN.{length, getD};
-ghost use Rattle.bytes.specs.Bytes.{u32At};
+ghost use lib.ListN.{length};
 ghost use Rattle.new_places.specs.Parts.{fated};
 ghost use Rattle.new_stream.specs.Entries.{entriesOf};
 ghost use Rattle.new_stream.specs.Compact.{onText, textsIn};
@@ -11,37 +9,6 @@ ghost use Rattle.used_strings.specs.Marked.{Marked, Flagged};
 use new_places::Fate;
 use new_places::Spot;
 use new_places::Step;
-
-fn byte_or(s: &[u8], i: usize) -> u32
-    ensures { λ r. ⌜ (r ≡ getD (now (s .entry)) i 0) × (r < 256) ⌝ }
-{
-    if i < s.len() {
-        return bytes::byte_as_u32(s[i]);
-    }
-    0
-}
-
-fn short_word(s: &[u8], at: usize) -> u32
-    requires { ⌜ at < 4294967296 ⌝ }
-    ensures { λ r. ⌜ r ≡ u32At (now (s .entry)) at ⌝ }
-{
-    let a = byte_or(s, at);
-    let b = byte_or(s, at + 1);
-    let c = byte_or(s, at + 1 + 1);
-    let d = byte_or(s, at + 1 + 1 + 1);
-    a + 256 * (b + 256 * (c + 256 * d))
-}
-
-// The number of the 4 bytes at `at`; what is past the end counts as 0.
-pub fn word_at(s: &[u8], at: usize) -> u32
-    requires { ⌜ at < 4294967296 ⌝ }
-    ensures { λ r. ⌜ r ≡ u32At (now (s .entry)) at ⌝ }
-{
-    if at + 4 <= s.len() {
-        return bytes::u32_at(s, at);
-    }
-    short_word(s, at)
-}
 
 fn mark_one(i: usize, base: usize, flags: &mut [u64])
     ensures { λ _. ⌜ Marked (i ∷ []) base (now (flags .entry)) (now (flags .exit)) ⌝ }
@@ -57,7 +24,7 @@ fn mark_entry(s: &[u8], p: usize, fate: Fate, base: usize, flags: &mut [u64])
 {
     match fate {
         Fate::Text => {
-            let i = word_at(s, p + 10);
+            let i = bytes::u32_or_zeros(s, p + 10);
             mark_one(bytes::u32_as_usize(i), base, flags);
         }
         Fate::Stays => {}

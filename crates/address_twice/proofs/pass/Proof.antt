@@ -1,8 +1,8 @@
 use Rattle.reading.specs.Cells.{placeAt, listedFrom}
-use Rattle.address_twice.proofs.Laws.{Passing, pass-laws}
+use Rattle.address_twice.proofs.Laws.{Passing, pass-on, pass-laws}
 use lib.ListN.{length}
-use borrow.Author.Needs.{needs}
 use Prim.Native.Nat.{_-_}
+use borrow.Author.Needs.{needs}
 use Rattle.address_twice.proofs.pass.Statement.{statement}
 use Rattle.address_twice.proofs.pass.Tie as tie
 
@@ -20,23 +20,29 @@ pass-spec =
     μ-loop
     -- loop-holds
     (λ c. search (pass-laws, needs))
+    -- past-clear-requires
+    (λ c κs. search needs)
     -- scan-requires
     (λ c κs. search needs)
     -- enum-known-row
     (λ c. search needs)
     -- look-requires
-    (λ c κs. (search needs, search needs, search needs, search needs))
+    (λ c κs. (search needs, search needs, search needs))
     -- enum-known-n
     (λ c. search needs)
     -- loop-less
     (λ c. search pass-laws)
     -- loop-again
-    (λ c. search pass-laws)
+    (λ c. pass-on _ _ _ _ _ _ _ (c .before .before .before .before .before .before .before .before .before .before .before .before .loop .inv) _ (c .before .before .before .before .before .before .before .before .before .before .before .past-clear .ensures) _ (c .before .before .before .before .before .before .before .before .before .before .scan .ensures) _ _ _ _ _ (c .before .before .before .before .before .before .before .before .row .given .1) _ _ (c .before .before .before .before .before .look .ensures) _ (c .before .n .given .1))
     -- enum-told
+    (λ c. search needs)
+    -- same-length
     (λ c. search needs)
     -- returns
     (λ c. search pass-laws)
     -- enum-told-2
+    (λ c. search needs)
+    -- same-length-2
     (λ c. search needs)
     -- returns-2
     (λ c. tt)
@@ -49,6 +55,8 @@ pass-spec =
     -- loop-again-2
     (λ c. search pass-laws)
     -- enum-told-3
+    (λ c. search needs)
+    -- same-length-3
     (λ c. search needs)
     -- returns-3
     (λ c. search pass-laws))

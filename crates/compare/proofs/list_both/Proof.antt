@@ -4,8 +4,8 @@ use borrow.Author.Needs.{needs}
 use Rattle.compare.proofs.list_both.Statement.{statement}
 use Rattle.compare.proofs.list_both.Tie as tie
 
-leading-requires : tie.Need-leading-requires
-leading-requires c κs = search needs
+in-common-requires : tie.Need-in-common-requires
+in-common-requires c κs = search needs
 
 -- src/lib.rt:401:13
 list-marked-requires : tie.Need-list-marked-requires
@@ -35,7 +35,7 @@ pub list-both-spec : {M : Type 1} → statement M
 list-both-spec =
     tie.close
     (tie.spec
-    leading-requires
+    in-common-requires
     list-marked-requires
     same-length
     returns

@@ -3,12 +3,12 @@ use Rattle.compare.proofs.list_marked.Statement.{statement}
 use Rattle.compare.proofs.list_marked.Tie as tie
 
 -- src/lib.rt:376:9
-mark-table-requires : tie.Need-mark-table-requires
-mark-table-requires c κs = search needs
+mark-first-requires : tie.Need-mark-first-requires
+mark-first-requires c κs = search needs
 
 -- src/lib.rt:377:9
-mark-table-requires-2 : tie.Need-mark-table-requires-2
-mark-table-requires-2 c κs = search needs
+mark-second-requires : tie.Need-mark-second-requires
+mark-second-requires c κs = search needs
 
 -- src/lib.rt:378:5
 list-requires : tie.Need-list-requires
@@ -25,4 +25,4 @@ returns c = search needs
 pub list-marked-spec : {M : Type 1} → statement M
 list-marked-spec =
     tie.close
-    (tie.spec mark-table-requires mark-table-requires-2 list-requires same-length returns)
+    (tie.spec mark-first-requires mark-second-requires list-requires same-length returns)

@@ -9,7 +9,7 @@ copy-entry-spec =
     (tie.spec
     -- enum-told
     (λ c. search needs)
-    -- copy-bytes-requires
+    -- copy-requires
     (λ c κs. (search needs, search (entry-laws, needs)))
     -- enum-told-2
     (λ c. search needs)
@@ -17,11 +17,11 @@ copy-entry-spec =
     (λ c. search needs)
     -- enum-told-4
     (λ c. search needs)
-    -- copy-bytes-requires-2
+    -- copy-requires-2
     (λ c κs. (search needs, search (entry-laws, needs)))
     -- enum-told-5
     (λ c. search needs)
-    -- copy-bytes-requires-3
+    -- copy-requires-3
     (λ c κs. (search needs, search (entry-laws, needs)))
     -- same-length
     (λ c. search needs)

@@ -31,6 +31,8 @@ find-spec =
     (λ c. search needs)
     -- enum-known-o-2
     (λ c. search needs)
+    -- past-others-requires
+    (λ c κs. search needs)
     -- loop-less-2
     (λ c. search (find-laws, needs))
     -- loop-again-2

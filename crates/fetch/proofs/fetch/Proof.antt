@@ -1,4 +1,4 @@
-use Rattle.fetch.proofs.Laws.{fetch-laws, buffer-laws, table-laws}
+use Rattle.fetch.proofs.Laws.{fetch-laws, buffer-laws, table-at}
 use borrow.Author.Needs.{needs}
 use Rattle.fetch.proofs.fetch.Statement.{statement}
 use Rattle.fetch.proofs.fetch.Tie as tie
@@ -13,17 +13,11 @@ fetch-spec =
     (λ c. search needs)
     -- enum-known-g
     (λ c. search needs)
+    -- fetch-known-requires
+    (λ c κs. search (table-at, needs))
     -- returns
-    (λ c. (search (fetch-laws, needs), search (buffer-laws, needs)))
-    -- table-end-requires
-    (λ c κs. search (table-laws, needs))
-    -- u32-as-usize-requires
-    (λ c κs. search needs)
-    -- fetch-string-requires
-    (λ c κs. (search table-laws, search table-laws, search table-laws))
-    -- returns-2
     (λ c. (search (fetch-laws, needs), search (buffer-laws, needs)))
     -- same-length
     (λ c. search needs)
-    -- returns-3
+    -- returns-2
     (λ c. (search (fetch-laws, needs), search (buffer-laws, needs))))

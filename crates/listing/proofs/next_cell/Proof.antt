@@ -26,6 +26,8 @@ next-cell-spec =
     (λ c. search (next-laws, needs))
     -- enum-known-next
     (λ c. search needs)
+    -- past-from-requires
+    (λ c κs. search needs)
     -- loop-less
     (λ c. search (next-laws, needs))
     -- loop-again

@@ -13,7 +13,9 @@ spot-after-spec =
     (λ c κs. search needs)
     -- level-after-requires
     (λ c κs. search needs)
-    -- kind-at-requires
+    -- add-u16-or-zeros
+    (λ c. search needs)
+    -- u16-or-zeros-requires
     (λ c κs. search needs)
     -- returns
     (λ c. search (spot-laws, needs))

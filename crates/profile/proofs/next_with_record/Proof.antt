@@ -24,6 +24,8 @@ next-with-record-spec =
     (λ c. (search placed-laws, search placed-laws))
     -- enum-known-next
     (λ c. search (placed-laws, needs))
+    -- past-from-requires
+    (λ c κs. search needs)
     -- loop-less
     (λ c. search (placed-laws, needs))
     -- loop-again

@@ -13,74 +13,33 @@ Inv-loop s a t b common x₀ y₀ x y = Ahead s t common (listedFrom s (placeAt 
 abbrev μ-loop : tie.MeasureT-loop
 μ-loop s a t b common x₀ y₀ x y = (length s - x) + (length t - y)
 
--- src/lib.rt:189:5
-loop-holds : tie.Need-loop-holds Inv-loop μ-loop
-loop-holds c = search pass-laws
-
--- src/lib.rt:190:13
-same-record-requires : tie.Need-same-record-requires Inv-loop μ-loop
-same-record-requires c κs = search needs
-
--- src/lib.rt:192:17
-past-others-requires : tie.Need-past-others-requires Inv-loop μ-loop
-past-others-requires c κs = search needs
-
--- src/lib.rt:193:17
-past-others-requires-2 : tie.Need-past-others-requires-2 Inv-loop μ-loop
-past-others-requires-2 c κs = search needs
-
--- src/lib.rt:196:21
-returns : tie.Need-returns Inv-loop μ-loop
-returns c = search needs
-
--- src/lib.rt:189:5
-loop-less : tie.Need-loop-less Inv-loop μ-loop
-loop-less c = search pass-laws
-
--- src/lib.rt:189:5
-loop-again : tie.Need-loop-again Inv-loop μ-loop
-loop-again c = search pass-laws
-
--- src/lib.rt:189:5
-loop-less-2 : tie.Need-loop-less-2 Inv-loop μ-loop
-loop-less-2 c = search pass-laws
-
--- src/lib.rt:189:5
-loop-again-2 : tie.Need-loop-again-2 Inv-loop μ-loop
-loop-again-2 c = search pass-laws
-
--- src/lib.rt:205:13
-add-x : tie.Need-add-x Inv-loop μ-loop
-add-x c = search (pass-laws, needs)
-
--- src/lib.rt:206:13
-add-y : tie.Need-add-y Inv-loop μ-loop
-add-y c = search (pass-laws, needs)
-
--- src/lib.rt:189:5
-loop-less-3 : tie.Need-loop-less-3 Inv-loop μ-loop
-loop-less-3 c = search pass-laws
-
--- src/lib.rt:189:5
-loop-again-3 : tie.Need-loop-again-3 Inv-loop μ-loop
-loop-again-3 c = search pass-laws
-
 pub pass-records-spec : {M : Type 1} → statement M
 pass-records-spec =
     tie.close
-    (tie.spec
-    Inv-loop
-    μ-loop
-    loop-holds
-    same-record-requires
-    past-others-requires
-    past-others-requires-2
-    returns
-    loop-less
-    loop-again
-    loop-less-2
-    loop-again-2
-    add-x
-    add-y
-    loop-less-3
-    loop-again-3)
+    (tie.spec Inv-loop μ-loop
+    -- loop-holds
+    (λ c. search pass-laws)
+    -- same-record-requires
+    (λ c κs. search needs)
+    -- past-others-requires
+    (λ c κs. search needs)
+    -- past-others-requires-2
+    (λ c κs. search needs)
+    -- returns
+    (λ c. search needs)
+    -- loop-less
+    (λ c. search pass-laws)
+    -- loop-again
+    (λ c. search pass-laws)
+    -- loop-less-2
+    (λ c. search pass-laws)
+    -- loop-again-2
+    (λ c. search pass-laws)
+    -- add-x
+    (λ c. search (pass-laws, needs))
+    -- add-y
+    (λ c. search (pass-laws, needs))
+    -- loop-less-3
+    (λ c. search pass-laws)
+    -- loop-again-3
+    (λ c. search pass-laws))

@@ -1,7 +1,6 @@
-use Rattle.string_marks.proofs.Laws.{Filling, fill-start, fill-done, fill-few, fill-inside, fill-low, fill-last, fill-not, fill-turn}
-use borrow.Author.Needs.{needs}
-use native.Mathlib.Omega.{arith}
+use Rattle.string_marks.proofs.Laws.{Filling, fill-laws, fill-turn, fill-not}
 use Prim.Native.Nat.{_-_}
+use borrow.Author.Needs.{needs}
 use Rattle.string_marks.proofs.fill.Statement.{statement}
 use Rattle.string_marks.proofs.fill.Tie as tie
 
@@ -11,65 +10,75 @@ Inv-loop s p e n stride marks₀ c₀ j₀ done₀ marks c j done = Filling s p 
 abbrev μ-loop : tie.MeasureT-loop
 μ-loop s p e n stride marks₀ c₀ j₀ done₀ marks c j done = n - done
 
--- src/lib.rt:40:13
+-- src/lib.rt:199:13
 add-t11 : tie.Need-add-t11 Inv-loop μ-loop
 add-t11 c = search needs
 
--- src/lib.rt:45:5
+-- src/lib.rt:204:5
 loop-holds : tie.Need-loop-holds Inv-loop μ-loop
-loop-holds c = fill-start _ _ _ _ _ (c .before .pre .7)
+loop-holds c = search fill-laws
 
--- src/lib.rt:46:9
+-- src/lib.rt:205:9
 store-requires : tie.Need-store-requires Inv-loop μ-loop
-store-requires c κs =
-    let low = fill-low _ _ _ _ _ (c .before .before .before .before .pre .0) (c .before .before .before .before .pre .1) (c .before .before .before .before .pre .2) (c .before .before .before .before .pre .3) (c .before .before .before .before .pre .6) _ _ _ _ (c .before .before .loop .inv) (c .before .loop-test .taken) in
-    let inside = fill-inside _ _ _ _ _ (c .before .before .before .before .pre .0) (c .before .before .before .before .pre .1) (c .before .before .before .before .pre .2) (c .before .before .before .before .pre .3) (c .before .before .before .before .pre .6) _ _ _ _ (c .before .before .loop .inv) (c .before .loop-test .taken) in
-    let small = c .before .before .before .before .pre .8 in
-    (fill-few _ _ _ _ _ (c .before .before .before .before .pre .0) (c .before .before .before .before .pre .1) (c .before .before .before .before .pre .2) (c .before .before .before .before .pre .3) (c .before .before .before .before .pre .6) _ _ _ _ (c .before .before .loop .inv) (c .before .loop-test .taken), omega arith, omega arith, omega arith)
+store-requires c κs = (search fill-laws, search fill-laws, search fill-laws)
 
--- src/lib.rt:47:12
+-- src/lib.rt:206:12
 sub-if1 : tie.Need-sub-if1 Inv-loop μ-loop
 sub-if1 c = search needs
 
--- src/lib.rt:48:13
+-- src/lib.rt:207:21
+sub-look : tie.Need-sub-look Inv-loop μ-loop
+sub-look c = search needs
+
+-- src/lib.rt:207:13
+look-requires : tie.Need-look-requires Inv-loop μ-loop
+look-requires c κs = (search fill-laws, search fill-laws, search fill-laws, search needs)
+
+-- src/lib.rt:208:13
 returns : tie.Need-returns Inv-loop μ-loop
-returns c = fill-last _ _ _ _ _ (c .before .before .before .before .before .before .pre .0) (c .before .before .before .before .before .before .pre .1) (c .before .before .before .before .before .before .pre .2) (c .before .before .before .before .before .before .pre .3) (c .before .before .before .before .before .before .pre .6) _ _ _ _ (c .before .before .before .before .loop .inv) (c .before .before .before .loop-test .taken) _ (c .before .store .ensures) (c .if1 .taken)
+returns c = search fill-laws
 
--- src/lib.rt:50:15
-skip-strings-requires : tie.Need-skip-strings-requires Inv-loop μ-loop
-skip-strings-requires c κs = fill-inside _ _ _ _ _ (c .before .before .before .before .before .before .pre .0) (c .before .before .before .before .before .before .pre .1) (c .before .before .before .before .before .before .pre .2) (c .before .before .before .before .before .before .pre .3) (c .before .before .before .before .before .before .pre .6) _ _ _ _ (c .before .before .before .before .loop .inv) (c .before .before .before .loop-test .taken)
+-- src/lib.rt:210:15
+pass-requires : tie.Need-pass-requires Inv-loop μ-loop
+pass-requires c κs = (search fill-laws, search fill-laws, search fill-laws, search needs)
 
--- src/lib.rt:55:17
+-- src/lib.rt:215:17
 enum-told : tie.Need-enum-told Inv-loop μ-loop
 enum-told c = search needs
 
--- src/lib.rt:55:17
+-- src/lib.rt:215:17
 returns-2 : tie.Need-returns-2 Inv-loop μ-loop
-returns-2 c = absurd (fill-not _ _ _ _ _ (c .before .before .before .before .before .before .before .before .before .pre .0) (c .before .before .before .before .before .before .before .before .before .pre .1) (c .before .before .before .before .before .before .before .before .before .pre .2) (c .before .before .before .before .before .before .before .before .before .pre .3) (c .before .before .before .before .before .before .before .before .before .pre .6) _ _ _ _ (c .before .before .before .before .before .before .before .loop .inv) (c .before .before .before .before .before .before .loop-test .taken) _ (c .before .before .before .before .store .ensures) (c .before .before .before .if1 .left) _ (c .before .before .skip-strings .ensures) _ _ (c .enum-told .given .1))
+returns-2 c = absurd (search fill-not)
 
--- src/lib.rt:57:23
+-- src/lib.rt:217:23
 enum-known-d : tie.Need-enum-known-d Inv-loop μ-loop
 enum-known-d c = search needs
 
--- src/lib.rt:59:17
+-- src/lib.rt:219:17
 add-j : tie.Need-add-j Inv-loop μ-loop
-add-j c = let f = fill-few _ _ _ _ _ (c .before .before .before .before .before .before .before .before .before .before .pre .0) (c .before .before .before .before .before .before .before .before .before .before .pre .1) (c .before .before .before .before .before .before .before .before .before .before .pre .2) (c .before .before .before .before .before .before .before .before .before .before .pre .3) (c .before .before .before .before .before .before .before .before .before .before .pre .6) _ _ _ _ (c .before .before .before .before .before .before .before .before .loop .inv) (c .before .before .before .before .before .before .before .loop-test .taken) in omega arith
+add-j c = search fill-laws
 
--- src/lib.rt:60:17
+-- src/lib.rt:220:17
 add-done : tie.Need-add-done Inv-loop μ-loop
 add-done c = search needs
 
--- src/lib.rt:45:5
+-- src/lib.rt:204:5
 loop-less : tie.Need-loop-less Inv-loop μ-loop
-loop-less c = omega (arith, c .before .before .before .before .before .before .before .loop-test .taken, c .before .before .before .before .if1 .left, c .before .before .before .before .before .before .before .before .before .before .pre .3)
+loop-less c = search needs
 
--- src/lib.rt:45:5
+-- src/lib.rt:204:5
 loop-again : tie.Need-loop-again Inv-loop μ-loop
-loop-again c = fill-turn _ _ _ _ _ (c .before .before .before .before .before .before .before .before .before .before .pre .0) (c .before .before .before .before .before .before .before .before .before .before .pre .1) (c .before .before .before .before .before .before .before .before .before .before .pre .2) (c .before .before .before .before .before .before .before .before .before .before .pre .3) (c .before .before .before .before .before .before .before .before .before .before .pre .6) _ _ _ _ (c .before .before .before .before .before .before .before .before .loop .inv) (c .before .before .before .before .before .before .before .loop-test .taken) _ (c .before .before .before .before .before .store .ensures) (c .before .before .before .before .if1 .left) _ (c .before .before .before .skip-strings .ensures) _ (c .before .d .given .1)
+loop-again c =
+    let to = c .before in
+    let call = to .before .before in
+    let test = call .before .before in
+    let turn = test .before .before .before in
+    let start = turn .before .before .before in
+    fill-turn _ _ _ _ _ (start .pre .0) (start .pre .1) (start .pre .2) (start .pre .3) (start .pre .6) _ _ _ _ (turn .before .loop .inv) (turn .loop-test .taken) _ (test .before .store .ensures) (test .if1 .left) _ (call .pass .ensures .0) _ (call .pass .ensures .1) _ (to .d .given .1)
 
--- src/lib.rt:34:1
+-- src/lib.rt:193:1
 returns-3 : tie.Need-returns-3 Inv-loop μ-loop
-returns-3 c = fill-done _ _ _ _ _ (c .before .before .before .pre .0) (c .before .before .before .pre .1) (c .before .before .before .pre .2) (c .before .before .before .pre .3) (c .before .before .before .pre .6) _ _ _ _ (c .before .loop .inv) (c .loop-test .left)
+returns-3 c = search fill-laws
 
 pub fill-spec : {M : Type 1} → statement M
 fill-spec =
@@ -81,8 +90,10 @@ fill-spec =
     loop-holds
     store-requires
     sub-if1
+    sub-look
+    look-requires
     returns
-    skip-strings-requires
+    pass-requires
     enum-told
     returns-2
     enum-known-d

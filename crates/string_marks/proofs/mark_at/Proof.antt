@@ -3,63 +3,63 @@ use borrow.Author.Needs.{needs}
 use Rattle.string_marks.proofs.mark_at.Statement.{statement}
 use Rattle.string_marks.proofs.mark_at.Tie as tie
 
--- src/lib.rt:36:21
-mul-seg : tie.Need-mul-seg
-mul-seg c = search needs
+-- src/lib.rt:34:41
+mul-u32-as-usize : tie.Need-mul-u32-as-usize
+mul-u32-as-usize c = search needs
 
--- src/lib.rt:36:15
-mul-seg-2 : tie.Need-mul-seg-2
-mul-seg-2 c = search needs
+-- src/lib.rt:34:35
+mul-u32-as-usize-2 : tie.Need-mul-u32-as-usize-2
+mul-u32-as-usize-2 c = search needs
 
--- src/lib.rt:36:15
-element-copy-out-seg : tie.Need-element-copy-out-seg
-element-copy-out-seg c = search needs
+-- src/lib.rt:34:35
+element-copy-out-u32-as-usize : tie.Need-element-copy-out-u32-as-usize
+element-copy-out-u32-as-usize c = search needs
 
--- src/lib.rt:37:20
-mul-at : tie.Need-mul-at
-mul-at c = search needs
-
--- src/lib.rt:37:20
-add-at : tie.Need-add-at
-add-at c = search needs
-
--- src/lib.rt:37:14
-mul-at-2 : tie.Need-mul-at-2
-mul-at-2 c = search needs
-
--- src/lib.rt:37:14
-element-copy-out-at : tie.Need-element-copy-out-at
-element-copy-out-at c = search needs
-
--- src/lib.rt:38:21
-mul-end : tie.Need-mul-end
-mul-end c = search needs
-
--- src/lib.rt:38:21
-add-end : tie.Need-add-end
-add-end c = search needs
-
--- src/lib.rt:38:15
-mul-end-2 : tie.Need-mul-end-2
-mul-end-2 c = search needs
-
--- src/lib.rt:38:15
-element-copy-out-end : tie.Need-element-copy-out-end
-element-copy-out-end c = search needs
-
--- src/lib.rt:40:14
+-- src/lib.rt:34:9
 u32-as-usize-requires : tie.Need-u32-as-usize-requires
 u32-as-usize-requires c κs = search needs
 
--- src/lib.rt:41:13
+-- src/lib.rt:35:40
+mul-u32-as-usize-3 : tie.Need-mul-u32-as-usize-3
+mul-u32-as-usize-3 c = search needs
+
+-- src/lib.rt:35:40
+add-u32-as-usize : tie.Need-add-u32-as-usize
+add-u32-as-usize c = search needs
+
+-- src/lib.rt:35:34
+mul-u32-as-usize-4 : tie.Need-mul-u32-as-usize-4
+mul-u32-as-usize-4 c = search needs
+
+-- src/lib.rt:35:34
+element-copy-out-u32-as-usize-2 : tie.Need-element-copy-out-u32-as-usize-2
+element-copy-out-u32-as-usize-2 c = search needs
+
+-- src/lib.rt:35:9
 u32-as-usize-requires-2 : tie.Need-u32-as-usize-requires-2
 u32-as-usize-requires-2 c κs = search needs
 
--- src/lib.rt:42:14
-u32-as-usize-requires-3 : tie.Need-u32-as-usize-requires-3
-u32-as-usize-requires-3 c κs = search needs
+-- src/lib.rt:39:14
+add-t6 : tie.Need-add-t6
+add-t6 c = search needs
 
--- src/lib.rt:32:1
+-- src/lib.rt:39:61
+add-u16-at : tie.Need-add-u16-at
+add-u16-at c = search needs
+
+-- src/lib.rt:39:44
+u16-at-requires : tie.Need-u16-at-requires
+u16-at-requires c κs = search needs
+
+-- src/lib.rt:39:24
+u16-as-usize-requires : tie.Need-u16-as-usize-requires
+u16-as-usize-requires c κs = search needs
+
+-- src/lib.rt:39:14
+add-t15 : tie.Need-add-t15
+add-t15 c = search needs
+
+-- src/lib.rt:30:1
 returns : tie.Need-returns
 returns c = search (cursor-made, needs)
 
@@ -67,18 +67,18 @@ pub mark-at-spec : {M : Type 1} → statement M
 mark-at-spec =
     tie.close
     (tie.spec
-    mul-seg
-    mul-seg-2
-    element-copy-out-seg
-    mul-at
-    add-at
-    mul-at-2
-    element-copy-out-at
-    mul-end
-    add-end
-    mul-end-2
-    element-copy-out-end
+    mul-u32-as-usize
+    mul-u32-as-usize-2
+    element-copy-out-u32-as-usize
     u32-as-usize-requires
+    mul-u32-as-usize-3
+    add-u32-as-usize
+    mul-u32-as-usize-4
+    element-copy-out-u32-as-usize-2
     u32-as-usize-requires-2
-    u32-as-usize-requires-3
+    add-t6
+    add-u16-at
+    u16-at-requires
+    u16-as-usize-requires
+    add-t15
     returns)

@@ -1,4 +1,4 @@
-use Rattle.string_marks.proofs.Laws.{mark-few, mark-inside, mark-not, mark-on, place-not, place-there}
+use Rattle.string_marks.proofs.Laws.{mark-few, mark-low, mark-inside, mark-not, mark-on, place-not, place-there}
 use borrow.Author.Needs.{needs}
 use Rattle.string_marks.proofs.place.Statement.{statement}
 use Rattle.string_marks.proofs.place.Tie as tie
@@ -9,7 +9,7 @@ div-j c = search needs
 
 -- src/lib.rt:72:9
 mark-at-requires : tie.Need-mark-at-requires
-mark-at-requires c κs = mark-few _ _ _ _ _ (c .before .pre .0) (c .before .pre .1) (c .before .pre .2) _ (c .before .pre .3) (c .before .pre .4) _ (c .before .pre .5)
+mark-at-requires c κs = (mark-few _ _ _ _ _ (c .before .pre .0) (c .before .pre .1) (c .before .pre .2) _ (c .before .pre .3) (c .before .pre .4) _ (c .before .pre .5), mark-low _ _ _ _ _ (c .before .pre .0) (c .before .pre .1) (c .before .pre .2) _ (c .before .pre .3) (c .before .pre .4) _ (c .before .pre .5))
 
 -- src/lib.rt:73:36
 rem-skip-strings : tie.Need-rem-skip-strings

@@ -11,53 +11,33 @@ narrow-requires c κs = search needs
 narrow-requires-2 : tie.Need-narrow-requires-2
 narrow-requires-2 c κs = search needs
 
--- src/lib.rt:26:9
-narrow-requires-3 : tie.Need-narrow-requires-3
-narrow-requires-3 c κs = search needs
-
--- src/lib.rt:27:11
+-- src/lib.rt:26:11
 mul-marks : tie.Need-mul-marks
 mul-marks c = search needs
 
--- src/lib.rt:27:5
+-- src/lib.rt:26:5
 mul-marks-2 : tie.Need-mul-marks-2
 mul-marks-2 c = search needs
 
--- src/lib.rt:27:5
+-- src/lib.rt:26:5
 element-write-marks : tie.Need-element-write-marks
 element-write-marks c = search needs
 
--- src/lib.rt:28:11
+-- src/lib.rt:27:11
 mul-marks-3 : tie.Need-mul-marks-3
 mul-marks-3 c = search needs
 
--- src/lib.rt:28:11
+-- src/lib.rt:27:11
 add-marks : tie.Need-add-marks
 add-marks c = search needs
 
--- src/lib.rt:28:5
+-- src/lib.rt:27:5
 mul-marks-4 : tie.Need-mul-marks-4
 mul-marks-4 c = search needs
 
--- src/lib.rt:28:5
+-- src/lib.rt:27:5
 element-write-marks-2 : tie.Need-element-write-marks-2
 element-write-marks-2 c = search needs
-
--- src/lib.rt:29:11
-mul-marks-5 : tie.Need-mul-marks-5
-mul-marks-5 c = search needs
-
--- src/lib.rt:29:11
-add-marks-2 : tie.Need-add-marks-2
-add-marks-2 c = search needs
-
--- src/lib.rt:29:5
-mul-marks-6 : tie.Need-mul-marks-6
-mul-marks-6 c = search needs
-
--- src/lib.rt:29:5
-element-write-marks-3 : tie.Need-element-write-marks-3
-element-write-marks-3 c = search needs
 
 -- src/lib.rt:20:1
 returns : tie.Need-returns
@@ -69,7 +49,6 @@ store-spec =
     (tie.spec
     narrow-requires
     narrow-requires-2
-    narrow-requires-3
     mul-marks
     mul-marks-2
     element-write-marks
@@ -77,8 +56,4 @@ store-spec =
     add-marks
     mul-marks-4
     element-write-marks-2
-    mul-marks-5
-    add-marks-2
-    mul-marks-6
-    element-write-marks-3
     returns)

@@ -17,49 +17,23 @@ Inv-loop s flags n buf₀ i₀ d₀ e₀ buf i d e =
 abbrev μ-loop : tie.MeasureT-loop
 μ-loop s flags n buf₀ i₀ d₀ e₀ buf i d e = n - i
 
--- src/lib.rt:391:5
-loop-holds : tie.Need-loop-holds Inv-loop μ-loop
-loop-holds c = (search needs, search needs, search needs, search needs, refl, search turns-laws, search turns-laws, refl, refl)
-
--- src/lib.rt:392:31
-flag-at-requires : tie.Need-flag-at-requires Inv-loop μ-loop
-flag-at-requires c κs = search (turns-laws, needs)
-
--- src/lib.rt:392:13
-put-marked-requires : tie.Need-put-marked-requires Inv-loop μ-loop
-put-marked-requires c κs = (search needs, search needs, search turns-laws, search turns-laws)
-
--- src/lib.rt:395:9
-add-i : tie.Need-add-i Inv-loop μ-loop
-add-i c = search (turns-laws, needs)
-
--- src/lib.rt:391:5
-loop-less : tie.Need-loop-less Inv-loop μ-loop
-loop-less c = search (turns-laws, needs)
-
--- src/lib.rt:391:5
-loop-again : tie.Need-loop-again Inv-loop μ-loop
-loop-again c = (search turns-laws, search turns-laws, search needs, search needs, search turns-laws, search turns-laws, search turns-laws, search turns-laws, search turns-laws)
-
--- src/lib.rt:383:1
-same-length : tie.Need-same-length Inv-loop μ-loop
-same-length c = search (turns-laws, needs)
-
--- src/lib.rt:383:1
-returns : tie.Need-returns Inv-loop μ-loop
-returns c = (search turns-laws, search turns-laws)
-
 pub put-texts-spec : {M : Type 1} → statement M
 put-texts-spec =
     tie.close
-    (tie.spec
-    Inv-loop
-    μ-loop
-    loop-holds
-    flag-at-requires
-    put-marked-requires
-    add-i
-    loop-less
-    loop-again
-    same-length
-    returns)
+    (tie.spec Inv-loop μ-loop
+    -- loop-holds
+    (λ c. (search needs, search needs, search needs, search needs, refl, search turns-laws, search turns-laws, refl, refl))
+    -- flag-at-requires
+    (λ c κs. search (turns-laws, needs))
+    -- put-marked-requires
+    (λ c κs. (search needs, search needs, search turns-laws, search turns-laws))
+    -- add-i
+    (λ c. search (turns-laws, needs))
+    -- loop-less
+    (λ c. search (turns-laws, needs))
+    -- loop-again
+    (λ c. (search turns-laws, search turns-laws, search needs, search needs, search turns-laws, search turns-laws, search turns-laws, search turns-laws, search turns-laws))
+    -- same-length
+    (λ c. search (turns-laws, needs))
+    -- returns
+    (λ c. (search turns-laws, search turns-laws)))

@@ -1,4 +1,4 @@
-use Rattle.text_equality.proofs.Laws.{Met, met-none, met-skips, none-skips, word-first, word-first-fits, word-second, word-second-fits, word-less, word-met}
+use Rattle.text_equality.proofs.Laws.{Met, met-none, met-skips, word-first, word-first-fits, word-second, word-second-fits, word-less, word-met}
 use borrow.Author.Needs.{needs}
 use native.Mathlib.Omega.{arith}
 use Prim.Native.Nat.{_-_}
@@ -11,9 +11,13 @@ Inv-loop s w p t v q k word a₀ b₀ done₀ a b done = Met s w p t v q k a b d
 abbrev μ-loop : tie.MeasureT-loop
 μ-loop s w p t v q k word a₀ b₀ done₀ a b done = k - done
 
+-- src/lib.rt:65:16
+same-lanes-requires : tie.Need-same-lanes-requires Inv-loop μ-loop
+same-lanes-requires c κs = (search needs, search needs, search needs, search needs, search needs, search needs, c .if1 .taken)
+
 -- src/lib.rt:65:9
 returns : tie.Need-returns Inv-loop μ-loop
-returns c = search none-skips
+returns c = search needs
 
 -- src/lib.rt:67:9
 chars-in-requires : tie.Need-chars-in-requires Inv-loop μ-loop
@@ -78,6 +82,7 @@ same-words-spec =
     (tie.spec
     Inv-loop
     μ-loop
+    same-lanes-requires
     returns
     chars-in-requires
     loop-holds

@@ -1,4 +1,0 @@
-pub mod Lists
-pub mod Held
-pub mod Whole
-pub mod Editing

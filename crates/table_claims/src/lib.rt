@@ -1,1 +1,0 @@
-// Theorems over the string table that is written anew. No code.
