@@ -12,7 +12,7 @@ pub fn byte_as_u16(x: u8) -> u16
     x as u16
 }
 
-pub fn byte_as_u32(x: u8) -> u32
+fn byte_as_u32(x: u8) -> u32
     ensures { λ r. ⌜ (r ≡ x) × (r < 256) ⌝ }
 {
     x as u32

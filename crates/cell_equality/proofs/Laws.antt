@@ -42,7 +42,7 @@ use Rattle.differences.specs.Differences.{same, shown, resultShown, alike}
 use Rattle.differences.specs.Units.{unitsBy}
 use Rattle.differences.proofs.Laws.{same-refl, same-eq}
 use Rattle.cell_equality.specs.declared.Said.{Said}
-use Rattle.cell_equality.specs.Equality.{Tabled, Places, Links, Linked, Marks, Pair, LinkOf, BothLinked, LinkedIf, StringAt, bare, shownBy, SaysResult, Says}
+use Rattle.cell_equality.specs.Equality.{Tabled, Places, Links, Linked, Marks, Pair, LinkOf, LinkedIf, StringAt, bare, shownBy, SaysResult, Says}
 
 -- ---- the table of a stream that passes
 tabled-by : (s : List ℕ) (g : Globals) → TableTold s 0 g → Tabled s (g .table) (g .unique)

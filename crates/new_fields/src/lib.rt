@@ -68,7 +68,7 @@ fn index_entry(
 }
 
 // The new indices of the text cells whose old ones are among those from base on that have a flag here.
-pub fn put_indices(
+fn put_indices(
     s: &[u8],
     table: usize,
     base: usize,

@@ -13,11 +13,6 @@ use Rattle.new_stream.specs.Compact.{onText, textsIn, uses, usedBelow}
 use Rattle.new_reading.specs.Retexted.{usedTexts}
 use Rattle.new_table.specs.NewTable.{marksFrom}
 
-pub marks-length : (l : List ℕ) (i n : ℕ) → length (marksFrom l i n) ≡ n
-unfolding marksFrom
-marks-length l i zero = refl
-marks-length l i (suc n) = ap suc (marks-length l (i + 1) n)
-
 -- one more string
 module _ (l : List ℕ) (i n : ℕ) (t : Text) (ts : List Text) where
   kept-used : uses l i ≡ true → kept (marksFrom l i (suc n)) (t ∷ ts) ≡ t ∷ kept (marksFrom l (i + 1) n) ts

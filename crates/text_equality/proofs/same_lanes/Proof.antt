@@ -1,5 +1,4 @@
 use Rattle.text_equality.proofs.Laws.{narrow-room, wide-room, lanes-narrow, turned-narrow, turned-wide, lanes-wide}
-use borrow.Author.Needs.{needs}
 use Rattle.text_equality.proofs.same_lanes.Statement.{statement}
 use Rattle.text_equality.proofs.same_lanes.Tie as tie
 

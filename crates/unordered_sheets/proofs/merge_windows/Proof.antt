@@ -4,7 +4,7 @@ use Rattle.reading.specs.Reading.{stringsAt}
 use Rattle.reading.specs.Cells.{placeAt, listedFrom}
 use Rattle.cell_differences.proofs.Puts.{length-puts}
 use Prim.Native.Nat.{_-_, _≤_}
-use mathlib.Core.Path.{_≡_, refl, ap, _∙_}
+use mathlib.Core.Path.{ap, _∙_}
 use lib.ListN.{length}
 use native.Mathlib.Omega.{arith}
 use borrow.Author.Needs.{needs}
