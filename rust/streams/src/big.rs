@@ -176,18 +176,13 @@ impl<'s> TableWriter<'s> {
         self.split_string(characters, false, LONGEST_BODY);
     }
 
-    /// A string of two bytes a character, split where a segment ends.
-    pub fn wide_string(&mut self, characters: &[u8]) {
-        self.split_string(characters, true, LONGEST_BODY);
-    }
-
     /// A string of one byte a character, with a segment for each.
     pub fn shredded_string(&mut self, characters: &[u8]) {
         self.split_string(characters, false, 1);
     }
 
-    /// A string with at most so many of its characters in a segment.
-    fn split_string(&mut self, characters: &[u8], wide: bool, most: usize) {
+    /// A string of one byte or of two a character, with at most so many of them in a segment.
+    pub fn split_string(&mut self, characters: &[u8], wide: bool, most: usize) {
         let width = 1 + usize::from(wide);
         if self.room() < 3 + width {
             self.next_segment();

@@ -19,7 +19,7 @@ pub enum Hostile {
     RowsReversed,
     /// Text cells that all show one of two equal strings of 65,535 characters.
     LongStrings,
-    /// The same, of one byte a character in one stream and of two in the other.
+    /// The same, one of them with one byte a character and one with two.
     TwoWidths,
     /// Text cells that each show one of 300 equal long strings.
     ManyLongStrings,
@@ -103,10 +103,13 @@ fn append_table(stream: &mut Vec<u8>, hostile: Hostile, bytes: usize, turn: u32)
         Hostile::LongStrings => append_strings(stream, 2, |table| {
             table.narrow_string(&[b'a'; LONGEST]);
         }),
-        Hostile::TwoWidths => append_strings(stream, 2, |table| match turn {
-            0 => table.narrow_string(&[b'a'; LONGEST]),
-            _ => table.wide_string(&[b'a'; LONGEST]),
-        }),
+        Hostile::TwoWidths => {
+            let mut wide = false;
+            append_strings(stream, 2, |table| {
+                table.split_string(&[b'a'; LONGEST], wide, LONGEST);
+                wide = true;
+            })
+        }
         Hostile::ManyLongStrings => append_strings(stream, LONG_STRINGS, |table| {
             table.narrow_string(&vec![b'a'; long]);
         }),
