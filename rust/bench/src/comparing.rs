@@ -73,8 +73,8 @@ fn revised(stream: &[u8]) -> Vec<u8> {
     next
 }
 
-/// Two revisions, the best of some turns.
-fn run_revisions(kind: Big) -> bool {
+/// Two revisions, the best of some turns: whether all told the same, and how long the library took.
+fn run_revisions(kind: Big) -> (bool, f64) {
     let first = streams::big(kind, BYTES);
     let second = revised(&first);
     let mut best = [f64::INFINITY; 3];
@@ -94,22 +94,12 @@ fn run_revisions(kind: Big) -> bool {
         ours / plain,
         if same { "" } else { ": THE ANSWERS DIFFER" },
     );
-    same
+    (same, ours)
 }
 
-/// How long two revisions take that are no dearer to compare than others: the best of some turns.
-fn honest_time(bytes: usize) -> f64 {
-    let first = streams::big(Big::Mixed, bytes);
-    let second = revised(&first);
-    let mut best = f64::INFINITY;
-    for _ in 0..TURNS {
-        time(&mut best, || ours(&first, &second));
-    }
-    best
-}
-
-/// The first size at which two streams that are dear to compare take over a second, or the largest; the plain compare goes as far as half a second takes it.
-fn run_hostile(kind: Hostile) -> bool {
+/// The first size at which two streams that are dear to compare take over a second, or the largest; the plain compare goes as far as half a second takes it. `mixed` is what a
+/// mixed stream of `BYTES` takes.
+fn run_hostile(kind: Hostile, mixed: f64) -> bool {
     let mut bytes = BYTES >> 10;
     let mut same = true;
     let mut plain = (0, 0.0);
@@ -125,7 +115,7 @@ fn run_hostile(kind: Hostile) -> bool {
         if took > 1e3 || bytes == BYTES {
             println!(
                 "{kind:?}: {bytes} bytes each, {took:.1} ms, {:.0} times the mixed stream; plain {:.1} ms for {} bytes{}",
-                took / honest_time(bytes),
+                took / (mixed * bytes as f64 / BYTES as f64),
                 plain.1,
                 plain.0,
                 if same { "" } else { ": THE ANSWERS DIFFER" },
@@ -138,11 +128,16 @@ fn run_hostile(kind: Hostile) -> bool {
 
 pub fn run() -> bool {
     let mut same = true;
+    let mut mixed = f64::INFINITY;
     for kind in Big::ALL {
-        same &= run_revisions(kind);
+        let (agreed, took) = run_revisions(kind);
+        same &= agreed;
+        if kind == Big::Mixed {
+            mixed = took;
+        }
     }
     for kind in Hostile::ALL {
-        same &= run_hostile(kind);
+        same &= run_hostile(kind, mixed);
     }
     same
 }
