@@ -4,7 +4,7 @@ ghost use Prim.Native.Nat.{_≤_, _<_};
 ghost use lib.ListN.{length};
 ghost use Rattle.reading.specs.Cells.{placeAt, listedFrom};
 ghost use Rattle.reading.specs.Reading.{stringsAt};
-ghost use Rattle.cell_equality.specs.Equality.{Tabled, Marks};
+ghost use Rattle.string_links.specs.Links.{Tabled, Marks};
 ghost use Rattle.cell_addresses.specs.Addresses.{AscendFrom};
 ghost use Rattle.cell_differences.specs.Merge.{puts, putTo, cellWords};
 ghost use Rattle.records_abreast.specs.Abreast.{Common};
@@ -17,21 +17,19 @@ pub fn merge(
     v: usize,
     p: usize,
     m: u32,
-    z: &[u32; 3456],
-    f: usize,
+    z: &[u32],
     t: &[u8],
     w: usize,
     q: usize,
     n: u32,
-    u: &[u32; 3456],
-    g: usize,
+    u: &[u32],
     common: u32,
     base: u64,
     from: u64,
     i: usize,
     out: &mut [u64],
 ) -> usize
-    requires { ⌜ Tabled (now s) p m × Marks (now s) p (now s) p m f (now z) × Tabled (now t) q n × Marks (now s) p (now t) q n g (now u) × AscendFrom 0 (listedFrom (now s) (placeAt v 0)) × AscendFrom 0 (listedFrom (now t) (placeAt w 0)) × Common (stringsAt (now s) p) (stringsAt (now t) q) common × (from ≤ 4294967296) × (base < 576460752303423488) ⌝ }
+    requires { ⌜ Tabled (now s) p m × Tabled (now t) q n × Marks (now s) p m (now z) (now t) q n (now u) × AscendFrom 0 (listedFrom (now s) (placeAt v 0)) × AscendFrom 0 (listedFrom (now t) (placeAt w 0)) × Common (stringsAt (now s) p) (stringsAt (now t) q) common × (from ≤ 4294967296) × (base < 576460752303423488) ⌝ }
     ensures { λ r. ⌜ r ≡ putTo (length (now (out .entry))) i (cellWords (now (s .entry)) v p (now (t .entry)) w q base from) ⌝ }
     ensures { λ r. ⌜ now (out .exit) ≡ puts (now (out .entry)) i (cellWords (now (s .entry)) v p (now (t .entry)) w q base from) ⌝ }
 {
@@ -82,14 +80,12 @@ pub fn merge(
                     p,
                     m,
                     z,
-                    f,
                     this,
                     here,
                     t,
                     q,
                     n,
                     u,
-                    g,
                     that,
                     there,
                     base + a,

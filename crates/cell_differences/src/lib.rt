@@ -5,7 +5,7 @@ ghost use Prim.Native.Nat.{_+_, _*_, _≤_, _<_};
 ghost use lib.ListN.{length};
 ghost use Rattle.reading.specs.Cells.{placeAt, listedFrom};
 ghost use Rattle.reading.specs.Reading.{stringsAt};
-ghost use Rattle.cell_equality.specs.Equality.{Tabled, Marks};
+ghost use Rattle.string_links.specs.Links.{Tabled, Marks};
 ghost use Rattle.differences.specs.Differences.{wordsOf};
 ghost use Rattle.cell_addresses.specs.Addresses.{Ascends, holds};
 ghost use Rattle.cell_differences.specs.Merge.{puts, putTo, turnOf, atBoth, sideWords};
@@ -56,26 +56,24 @@ pub fn put_unequal(
     s: &[u8],
     p: usize,
     m: u32,
-    z: &[u32; 3456],
-    f: usize,
+    z: &[u32],
     v: CellValue,
     a: usize,
     t: &[u8],
     q: usize,
     n: u32,
-    u: &[u32; 3456],
-    g: usize,
+    u: &[u32],
     w: CellValue,
     b: usize,
     key: u64,
     i: usize,
     out: &mut [u64],
 ) -> usize
-    requires { ⌜ Tabled (now s) p m × Marks (now s) p (now s) p m f (now z) × Tabled (now t) q n × Marks (now s) p (now t) q n g (now u) × (key < 1152921504606846976) ⌝ }
+    requires { ⌜ Tabled (now s) p m × Tabled (now t) q n × Marks (now s) p m (now z) (now t) q n (now u) × (key < 1152921504606846976) ⌝ }
     ensures { λ r. ⌜ r ≡ putTo (length (now (out .entry))) i (wordsOf key (atBoth (now (s .entry)) (now (t .entry)) (stringsAt (now (s .entry)) p) (stringsAt (now (t .entry)) q) (holds v a) (holds w b))) ⌝ }
     ensures { λ r. ⌜ now (out .exit) ≡ puts (now (out .entry)) i (wordsOf key (atBoth (now (s .entry)) (now (t .entry)) (stringsAt (now (s .entry)) p) (stringsAt (now (t .entry)) q) (holds v a) (holds w b))) ⌝ }
 {
-    if cell_equality::same_cell(s, p, m, z, f, v, a, t, q, n, u, g, w, b) {
+    if cell_equality::same_cell(s, p, m, z, v, a, t, q, n, u, w, b) {
         return i;
     }
     put(out, i, key * 4 + 3)
@@ -83,7 +81,7 @@ pub fn put_unequal(
 
 // The differences between the cells of two sheets, which start at `v` in the first stream and at `w` in the second, from address `from` on. Where their addresses
 // ascend, `up` and `down` say so; else the cells are those below `high` of the first ac records of the table a, and of the first bc of b, or all of the sheet where
-// there is no table. The tables of strings are at p, with m strings, marked in z with every f-th, and at q, with n, u and g; `base` is the key of address 0. i words
+// there is no table. The tables of strings are at p, with m strings, and at q, with n, marked and linked in z and u; `base` is the key of address 0. i words
 // stand in the buffer, and the answer is how many then do.
 pub fn merge(
     s: &[u8],
@@ -93,8 +91,7 @@ pub fn merge(
     ac: usize,
     p: usize,
     m: u32,
-    z: &[u32; 3456],
-    f: usize,
+    z: &[u32],
     t: &[u8],
     w: usize,
     down: bool,
@@ -102,15 +99,14 @@ pub fn merge(
     bc: usize,
     q: usize,
     n: u32,
-    u: &[u32; 3456],
-    g: usize,
+    u: &[u32],
     base: u64,
     from: u64,
     high: u64,
     i: usize,
     out: &mut [u64],
 ) -> usize
-    requires { ⌜ Tabled (now s) p m × Marks (now s) p (now s) p m f (now z) × Tabled (now t) q n × Marks (now s) p (now t) q n g (now u) × (from ≤ 4294967296) × (base < 576460752303423488) × (high ≤ 4294967296) × (ac ≤ length (now a)) × (bc ≤ length (now b)) × Ascends (listedFrom (now s) (placeAt v 0)) up × Ascends (listedFrom (now t) (placeAt w 0)) down ⌝ }
+    requires { ⌜ Tabled (now s) p m × Tabled (now t) q n × Marks (now s) p m (now z) (now t) q n (now u) × (from ≤ 4294967296) × (base < 576460752303423488) × (high ≤ 4294967296) × (ac ≤ length (now a)) × (bc ≤ length (now b)) × Ascends (listedFrom (now s) (placeAt v 0)) up × Ascends (listedFrom (now t) (placeAt w 0)) down ⌝ }
     ensures { λ r. ⌜ r ≡ putTo (length (now (out .entry))) i (sideWords (now (s .entry)) v up (now (a .entry)) ac p (now (t .entry)) w down (now (b .entry)) bc q base from high) ⌝ }
     ensures { λ r. ⌜ now (out .exit) ≡ puts (now (out .entry)) i (sideWords (now (s .entry)) v up (now (a .entry)) ac p (now (t .entry)) w down (now (b .entry)) bc q base from high) ⌝ }
 {
@@ -170,14 +166,12 @@ pub fn merge(
                     p,
                     m,
                     z,
-                    f,
                     one,
                     here,
                     t,
                     q,
                     n,
                     u,
-                    g,
                     two,
                     there,
                     base + c,

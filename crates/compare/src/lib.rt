@@ -7,7 +7,7 @@ ghost use Rattle.reading.specs.Reading.{readingOf};
 ghost use Rattle.reading.specs.Cells.{placeAt, listedFrom};
 ghost use Rattle.reading.specs.Reading.{stringsAt};
 ghost use Rattle.globals.specs.Sheets.{sheetsOf};
-ghost use Rattle.cell_equality.specs.Equality.{Tabled, Marks};
+ghost use Rattle.string_links.specs.Links.{Tabled, Marks};
 ghost use Rattle.cell_addresses.specs.Addresses.{When, AscendFrom};
 ghost use Rattle.records_abreast.specs.Abreast.{Common};
 ghost use Rattle.cell_differences.specs.Merge.{puts, putTo};
@@ -167,14 +167,12 @@ fn put_cells(
     v: usize,
     p: usize,
     m: u32,
-    z: &[u32; 3456],
-    f: usize,
+    z: &[u32],
     t: &[u8],
     w: usize,
     q: usize,
     n: u32,
-    u: &[u32; 3456],
-    g: usize,
+    u: &[u32],
     up: bool,
     common: u32,
     key: u64,
@@ -182,7 +180,7 @@ fn put_cells(
     i: usize,
     out: &mut [u64],
 ) -> usize
-    requires { ⌜ Tabled (now s) p m × Marks (now s) p (now s) p m f (now z) × Tabled (now t) q n × Marks (now s) p (now t) q n g (now u) × When up (AscendFrom 0 (listedFrom (now s) (placeAt v 0)) × AscendFrom 0 (listedFrom (now t) (placeAt w 0))) × Common (stringsAt (now s) p) (stringsAt (now t) q) common × (key < 288230376151711745) ⌝ }
+    requires { ⌜ Tabled (now s) p m × Tabled (now t) q n × Marks (now s) p m (now z) (now t) q n (now u) × When up (AscendFrom 0 (listedFrom (now s) (placeAt v 0)) × AscendFrom 0 (listedFrom (now t) (placeAt w 0))) × Common (stringsAt (now s) p) (stringsAt (now t) q) common × (key < 288230376151711745) ⌝ }
     ensures { λ r. ⌜ r ≡ putTo (length (now (out .entry))) i (cellsSeen (now (s .entry)) v p (now (t .entry)) w q key from) ⌝ }
     ensures { λ r. ⌜ now (out .exit) ≡ puts (now (out .entry)) i (cellsSeen (now (s .entry)) v p (now (t .entry)) w q key from) ⌝ }
 {
@@ -190,27 +188,9 @@ fn put_cells(
         let base = key + 4294967296;
         let low = past(from, base);
         if up {
-            return ascending_sheets::merge(
-                s,
-                v,
-                p,
-                m,
-                z,
-                f,
-                t,
-                w,
-                q,
-                n,
-                u,
-                g,
-                common,
-                base,
-                low,
-                i,
-                out,
-            );
+            return ascending_sheets::merge(s, v, p, m, z, t, w, q, n, u, common, base, low, i, out);
         }
-        return unordered_sheets::merge_cells(s, v, p, m, z, f, t, w, q, n, u, g, base, low, i, out);
+        return unordered_sheets::merge_cells(s, v, p, m, z, t, w, q, n, u, base, low, i, out);
     }
     i
 }
@@ -221,14 +201,12 @@ fn put_sheet(
     x: SheetFound,
     p: usize,
     m: u32,
-    z: &[u32; 3456],
-    f: usize,
+    z: &[u32],
     t: &[u8],
     y: SheetFound,
     q: usize,
     n: u32,
-    u: &[u32; 3456],
-    g: usize,
+    u: &[u32],
     up: bool,
     common: u32,
     key: u64,
@@ -236,7 +214,7 @@ fn put_sheet(
     i: usize,
     out: &mut [u64],
 ) -> usize
-    requires { ⌜ Tabled (now s) p m × Marks (now s) p (now s) p m f (now z) × Tabled (now t) q n × Marks (now s) p (now t) q n g (now u) × When up (AscendFrom 0 (listedFrom (now s) (placeAt (x .start) 0)) × AscendFrom 0 (listedFrom (now t) (placeAt (y .start) 0))) × Common (stringsAt (now s) p) (stringsAt (now t) q) common × Narrow (x .width) × Narrow (y .width) × (key < 288230376151711745) ⌝ }
+    requires { ⌜ Tabled (now s) p m × Tabled (now t) q n × Marks (now s) p m (now z) (now t) q n (now u) × When up (AscendFrom 0 (listedFrom (now s) (placeAt (x .start) 0)) × AscendFrom 0 (listedFrom (now t) (placeAt (y .start) 0))) × Common (stringsAt (now s) p) (stringsAt (now t) q) common × Narrow (x .width) × Narrow (y .width) × (key < 288230376151711745) ⌝ }
     ensures { λ r. ⌜ r ≡ putTo (length (now (out .entry))) i (sheetSeen (now (s .entry)) x p (now (t .entry)) y q key from) ⌝ }
     ensures { λ r. ⌜ now (out .exit) ≡ puts (now (out .entry)) i (sheetSeen (now (s .entry)) x p (now (t .entry)) y q key from) ⌝ }
 {
@@ -248,13 +226,11 @@ fn put_sheet(
             p,
             m,
             z,
-            f,
             t,
             y.start,
             q,
             n,
             u,
-            g,
             up,
             common,
             key,
@@ -269,13 +245,11 @@ fn put_sheet(
         p,
         m,
         z,
-        f,
         t,
         y.start,
         q,
         n,
         u,
-        g,
         up,
         common,
         key,
@@ -301,19 +275,17 @@ fn list(
     s: &[u8],
     p: usize,
     m: u32,
-    z: &[u32; 3456],
-    f: usize,
+    z: &[u32],
     t: &[u8],
     q: usize,
     n: u32,
-    u: &[u32; 3456],
-    g: usize,
+    u: &[u32],
     up: bool,
     common: u32,
     from: u64,
     out: &mut [u64],
 ) -> usize
-    requires { ⌜ Tabled (now s) p m × Marks (now s) p (now s) p m f (now z) × Tabled (now t) q n × Marks (now s) p (now t) q n g (now u) × When up (BothAscend (now s) (now t)) × Common (stringsAt (now s) p) (stringsAt (now t) q) common × (length (now s) ≤ 16777216) × (length (now t) ≤ 16777216) ⌝ }
+    requires { ⌜ Tabled (now s) p m × Tabled (now t) q n × Marks (now s) p m (now z) (now t) q n (now u) × When up (BothAscend (now s) (now t)) × Common (stringsAt (now s) p) (stringsAt (now t) q) common × (length (now s) ≤ 16777216) × (length (now t) ≤ 16777216) ⌝ }
     ensures { λ r. ⌜ r ≡ putTo (length (now (out .entry))) 0 (differences (bookOf (now (s .entry)) p) (bookOf (now (t .entry)) q) from) ⌝ }
     ensures { λ r. ⌜ now (out .exit) ≡ puts (now (out .entry)) 0 (differences (bookOf (now (s .entry)) p) (bookOf (now (t .entry)) q) from) ⌝ }
 {
@@ -331,13 +303,11 @@ fn list(
                 p,
                 m,
                 z,
-                f,
                 t,
                 y,
                 q,
                 n,
                 u,
-                g,
                 up,
                 common,
                 number * 8589934592,
@@ -355,7 +325,7 @@ fn list(
     j
 }
 
-// The same, with the tables of strings marked first: 14 KB of marks for each.
+// The same, with both tables of strings marked, and their long strings linked in an order: 1,056 marks on each, 12 KB.
 fn list_marked(
     s: &[u8],
     p: usize,
@@ -372,11 +342,12 @@ fn list_marked(
     ensures { λ r. ⌜ r ≡ putTo (length (now (out .entry))) 0 (differences (bookOf (now (s .entry)) p) (bookOf (now (t .entry)) q) from) ⌝ }
     ensures { λ r. ⌜ now (out .exit) ≡ puts (now (out .entry)) 0 (differences (bookOf (now (s .entry)) p) (bookOf (now (t .entry)) q) from) ⌝ }
 {
-    let mut z = [0u32; 3456];
-    let mut u = [0u32; 3456];
-    let f = cell_equality::mark_first(s, p, m, &mut z);
-    let g = cell_equality::mark_second(s, p, m, &z, f, t, q, n, &mut u);
-    list(s, p, m, &z, f, t, q, n, &u, g, up, common, from, out)
+    let mut z = [0u32; 3168];
+    let mut u = [0u32; 3168];
+    let mut order = [0u16; 1056];
+    let count = string_links::mark_first(s, p, m, &mut z, &mut order);
+    string_links::mark_second(s, p, m, &z, &order, count, t, q, n, &mut u);
+    list(s, p, m, &z, t, q, n, &u, up, common, from, out)
 }
 
 // The same, where `up` and `down` say whether the addresses ascend in the first stream and in the second. It calls twice what has the marks, with two arguments

@@ -17,8 +17,8 @@ use Rattle.strings.proofs.Laws.{first-inside, skipped-not, skipped-inside, plac
 use Rattle.string_marks.proofs.Laws.{strings-add}
 use Rattle.reading.specs.Reading.{stringsAt}
 use Rattle.differences.specs.Differences.{same}
-use Rattle.cell_equality.specs.Equality.{Tabled, StringAt}
-use Rattle.cell_equality.proofs.Laws.{table-low, table-within, table-string, string-stands}
+use Rattle.string_links.specs.Links.{Tabled, StringAt}
+use Rattle.string_links.proofs.Laws.{table-within, table-string, string-stands}
 use Rattle.records_abreast.specs.Abreast.{Common}
 use Rattle.leading_strings.specs.Leading.{Reached, Shared}
 
@@ -27,13 +27,13 @@ module _ (s : List ℕ) (p n i : ℕ) (t : Tabled s p n) (l : i < n) where
   end = p + 4 + u16At s (p + 2)
 
   low : p + 4 ≤ end
-  low = table-low s p n i t l end i refl refl
+  low = omega arith
 
   within : end ≤ length s
-  within = table-within s p n i t l end i refl refl
+  within = table-within s p n t (omega arith) end refl
 
   there : i < length (placesOf s p end)
-  there = table-string s p n i t l end i refl refl
+  there = table-string s p n t (omega arith) end refl i i l refl
 
   module _ (c : Cursor) (r : Reached s p i c) where
     cursor : got tt c ≡ ends (strings s i (first p end))
@@ -48,12 +48,12 @@ module _ (s : List ℕ) (p n i : ℕ) (t : Tabled s p n) (l : i < n) where
       here-not a b q = placed-not s p end i there low within (Moved.To c) cursor c refl z is a b q
 
       pub here-stands : (d : Cursor) → z ≡ Moved.To d → StringAt s d (getD (stringsAt s p) i [])
-      here-stands d q = string-stands s p n i t l end i refl refl d (placed s p end i there low within (Moved.To c) cursor c refl z is d q)
+      here-stands d q = string-stands s p n t (omega arith) end refl i i l refl d (placed s p end i there low within (Moved.To c) cursor c refl z is d q)
 
 module _ (s : List ℕ) (p n i : ℕ) (t : Tabled s p n) (l : i + 1 < n) (c : Cursor) (r : Reached s p i c) (z : Moved) (is : moved z ≡ ends (strings s 1 c)) where
   passed : moved z ≡ ends (strings s (i + 1) (first p (end s p n (i + 1) t l)))
   unfolding Reached
-  passed = is ∙ sym (strings-add s i 1 (first p (end s p n (i + 1) t l)) c r)
+  passed = is ∙ sym (strings-add s 1 c i (first p (end s p n (i + 1) t l)) r)
 
   pub after-not : (a b : ℕ) → z ≡ Moved.Refused a b → ⊥
   after-not a b q = skipped-not s p (end s p n (i + 1) t l) (i + 1) (there s p n (i + 1) t l) (low s p n (i + 1) t l) (within s p n (i + 1) t l) z passed a b q

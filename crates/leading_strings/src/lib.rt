@@ -7,7 +7,7 @@ ghost use lib.ListN.{getD};
 ghost use Rattle.reading.specs.Reading.{stringsAt};
 ghost use Rattle.text_equality.specs.Characters.{ReadAs};
 ghost use Rattle.differences.specs.Differences.{same};
-ghost use Rattle.cell_equality.specs.Equality.{Tabled, StringAt};
+ghost use Rattle.string_links.specs.Links.{Tabled, StringAt};
 ghost use Rattle.records_abreast.specs.Abreast.{Common};
 ghost use Rattle.leading_strings.specs.Leading.{Reached};
 use segments::Cursor;
@@ -34,7 +34,7 @@ fn chars_here(s: &[u8], p: usize, n: u32, c: Cursor, i: u32) -> Chars
     ensures { λ r. ⌜ ReadAs (now (s .entry)) r (getD (stringsAt (now (s .entry)) p) i []) ⌝ }
 {
     let d = string_here(s, p, n, c, i);
-    cell_equality::chars_of(s, d)
+    string_links::chars_of(s, d)
 }
 
 // The cursor after it.
@@ -76,7 +76,7 @@ fn start(s: &[u8], p: usize, n: u32) -> Cursor
     requires { ⌜ Tabled (now s) p n × (0 < n) ⌝ }
     ensures { λ r. ⌜ Reached (now (s .entry)) p 0 r ⌝ }
 {
-    let e = cell_equality::table_end(s, p);
+    let e = string_links::table_end(s, p);
     Cursor {
         seg: p,
         at: p + 12,

@@ -1,13 +1,21 @@
-// Marks on a table of shared strings: where every so many-th string starts, so that any string is found by few steps. After the 1536 marks stand 128 pairs for long strings:
-// 1 + the index of one, and its bytes, until who compares two tables puts a link in its place; and a number for each pair, for that too. Nothing here rests on them but speed.
+// Marks on a table of shared strings, so that any string is found by few steps. They stand at even distances in bytes: however long the strings are and however many
+// segments they have, little lies between a mark and the strings after it. A string that is longer than that distance ends at a mark, where a link tells of its characters.
 ghost use mathlib.Core.Path.{_≡_};
-ghost use Prim.Native.Nat.{_+_, _*_, _≤_, _<_};
-ghost use lib.ListN.{length, getD};
-ghost use Rattle.segments.specs.Parts.{Inside, ends, moved};
-ghost use Rattle.strings.specs.Table.{strings, placesOf, placeOf};
-ghost use Rattle.string_marks.specs.Marks.{Marked, Kept, endAt, cursorAt, storedAt};
+ghost use Prim.Native.Nat.{_+_, _-_, _*_, _≤_, _<_};
+ghost use lib.ListN.{length};
+ghost use Rattle.segments.specs.Parts.{Inside};
+ghost use Rattle.strings.specs.Table.{placesOf, placeOf};
+ghost use Rattle.string_marks.specs.Marks.{Marked, Passes, endAt, beforeAt, segmentAt, linkAt, cursorAt, storedAt, linkedAt};
+use record::Header;
 use segments::Cursor;
 use segments::Moved;
+
+// So many strings were passed, the last of them with so many bytes; the next is looked for at the place.
+pub struct Passed {
+    count: usize,
+    place: Cursor,
+    last: usize,
+}
 
 fn narrow(x: usize) -> u32
     requires { ⌜ x < 4294967296 ⌝ }
@@ -16,23 +24,48 @@ fn narrow(x: usize) -> u32
     x as u32
 }
 
-// A mark is a cursor: the numbers 2 * j, its segment, and 2 * j + 1, its place; where the segment ends its header tells. All offsets fit in 32 bits.
-fn store(marks: &mut [u32; 3456], j: usize, c: Cursor)
-    requires { ⌜ (j < 1536) × (c .seg < 4294967296) × (c .at < 4294967296) ⌝ }
-    ensures { λ r. ⌜ now (marks .exit) ≡ storedAt (now (marks .entry)) j c ⌝ }
+// How far x is past y.
+fn past(x: usize, y: usize) -> usize
+    ensures { λ r. ⌜ r ≡ x - y ⌝ }
 {
-    let seg = narrow(c.seg);
-    let at = narrow(c.at);
-    marks[2 * j] = seg;
-    marks[2 * j + 1] = at;
+    if x <= y {
+        return 0;
+    }
+    x - y
 }
 
-fn mark_at(s: &[u8], marks: &[u32; 3456], j: usize) -> Cursor
-    requires { ⌜ (j < 1536) × (getD (now marks) (2 * j) 0 + 4 ≤ length (now s)) ⌝ }
+// ---- the numbers of a mark
+
+fn store(marks: &mut [u32], j: usize, before: usize, c: Cursor, link: u32)
+    requires { ⌜ (3 * j + 2 < length (now marks)) × (before < 4294967296) × (c .seg ≤ c .at) × (c .at < c .seg + 131072) × (c .at < 4294967296) × (link ≤ 1) ⌝ }
+    ensures { λ r. ⌜ now (marks .exit) ≡ storedAt (now (marks .entry)) j before c link ⌝ }
+{
+    let i = narrow(before);
+    let at = narrow(c.at);
+    let far = narrow(c.at - c.seg);
+    marks[3 * j] = i;
+    marks[3 * j + 1] = at;
+    marks[3 * j + 2] = far + 131072 * link;
+}
+
+// How many strings stand before mark j; none where there is no such mark.
+pub fn before_at(marks: &[u32], j: usize) -> usize
+    requires { ⌜ j < 4294967296 ⌝ }
+    ensures { λ r. ⌜ (r ≡ beforeAt (now (marks .entry)) j) × (r < 4294967296) ⌝ }
+{
+    if marks.len() <= 3 * j {
+        return 0;
+    }
+    bytes::u32_as_usize(marks[3 * j])
+}
+
+fn mark_at(s: &[u8], marks: &[u32], j: usize) -> Cursor
+    requires { ⌜ (3 * j + 2 < length (now marks)) × (segmentAt (now marks) j + 4 ≤ length (now s)) ⌝ }
     ensures { λ r. ⌜ r ≡ cursorAt (now (s .entry)) (now (marks .entry)) j ⌝ }
 {
-    let seg = bytes::u32_as_usize(marks[2 * j]);
-    let at = bytes::u32_as_usize(marks[2 * j + 1]);
+    let at = bytes::u32_as_usize(marks[3 * j + 1]);
+    let far = bytes::u32_as_usize(marks[3 * j + 2] % 131072);
+    let seg = past(at, far);
     Cursor {
         seg,
         at,
@@ -40,183 +73,180 @@ fn mark_at(s: &[u8], marks: &[u32; 3456], j: usize) -> Cursor
     }
 }
 
-// ---- long strings
-
-// Of two pairs the one that has the shorter string.
-fn shorter(marks: &[u32; 3456], best: usize, k: usize) -> usize
-    requires { ⌜ (best < 128) × (k < 128) ⌝ }
-    ensures { λ r. ⌜ r < 128 ⌝ }
+// The link of mark j; 0 where there is no such mark.
+pub fn link_at(marks: &[u32], j: usize) -> u32
+    requires { ⌜ j < 4294967296 ⌝ }
+    ensures { λ r. ⌜ r ≡ linkAt (now (marks .entry)) j ⌝ }
 {
-    if marks[2 * k + 3073] < marks[2 * best + 3073] {
-        return k;
+    if marks.len() <= 3 * j + 2 {
+        return 0;
     }
-    best
+    marks[3 * j + 2] / 131072
 }
 
-// The pair that has the shortest string, or a free one.
-fn shortest(marks: &[u32; 3456]) -> usize
-    ensures { λ r. ⌜ r < 128 ⌝ }
+pub fn set_link(marks: &mut [u32], j: usize, link: u32)
+    requires { ⌜ (3 * j + 2 < length (now marks)) × (link < 32768) ⌝ }
+    ensures { λ r. ⌜ now (marks .exit) ≡ linkedAt (now (marks .entry)) j link ⌝ }
 {
-    let mut best: usize = 0;
-    let mut k: usize = 0;
-    while k < 128 {
-        if marks[2 * k + 3073] == 0 {
-            return k;
+    let word = marks[3 * j + 2] % 131072 + 131072 * link;
+    marks[3 * j + 2] = word;
+}
+
+// ---- marks on all of a table
+
+// Where the table ends whose SST ends at e: after its last CONTINUE. Only the distance between marks rests on it.
+fn table_end(s: &[u8], e: usize) -> usize
+    requires { ⌜ e ≤ length (now s) ⌝ }
+    ensures { λ r. ⌜ (e ≤ r) × (r ≤ length (now (s .entry))) ⌝ }
+{
+    let mut p = e;
+    loop {
+        match record::header_at(s, p) {
+            Header::Record { kind, size: _, end } => {
+                if kind != 0x003c {
+                    return p;
+                }
+                p = end;
+            }
+            Header::Cut => {
+                return p;
+            }
+            Header::End => {
+                return p;
+            }
         }
-        best = shorter(marks, best, k);
-        k += 1;
     }
-    best
 }
 
-// Keeps string i, of so many bytes, where it is among the 128 longest so far.
-fn note(marks: &mut [u32; 3456], i: usize, size: usize)
-    requires { ⌜ (i < 4294967295) × (size < 4294967296) × (length (now marks) ≡ 3456) ⌝ }
-    ensures { λ r. ⌜ Kept (now (marks .entry)) (now (marks .exit)) ⌝ }
+// The distance between so many marks on so many bytes: the last mark stands at the end.
+fn distance(bytes: usize, marks: usize) -> usize
+    requires { ⌜ bytes ≤ 16777216 ⌝ }
+    ensures { λ r. ⌜ r ≤ 16777217 ⌝ }
 {
-    let k = shortest(&*marks);
-    let number = narrow(i + 1);
-    let long = narrow(size);
-    if long <= marks[2 * k + 3073] {
-        return;
+    if marks < 2 {
+        return bytes;
     }
-    marks[2 * k + 3072] = number;
-    marks[2 * k + 3073] = long;
+    bytes / (marks - 1) + 1
 }
 
-// Notes string i, which stands from one place to another, where it is long: comparing fewer bytes costs no more than a look at the links. By bytes, since a string of many
-// short segments is dearer than its characters tell.
-fn note_long(marks: &mut [u32; 3456], i: usize, from: usize, to: usize)
-    requires { ⌜ (i < 4294967295) × (from ≤ 16777216) × (to ≤ 16777216) × (length (now marks) ≡ 3456) ⌝ }
-    ensures { λ r. ⌜ Kept (now (marks .entry)) (now (marks .exit)) ⌝ }
+// The next edge, until it is past every stream.
+fn next_edge(edge: usize, step: usize) -> usize
+    requires { ⌜ (edge ≤ 67108864) × (step ≤ 16777217) ⌝ }
+    ensures { λ r. ⌜ r ≤ 67108864 ⌝ }
 {
-    if to < from + 512 {
-        return;
+    if 16777216 < edge {
+        return edge;
     }
-    note(marks, i, to - from);
+    edge + step
 }
 
-// Notes the long ones of n strings from c on, the first of which is string i.
-fn look(s: &[u8], n: usize, c: Cursor, i: usize, marks: &mut [u32; 3456])
-    requires { ⌜ Inside (now s) c × (i + n ≤ 4294967295) × (length (now marks) ≡ 3456) × (length (now s) ≤ 16777216) ⌝ }
-    ensures { λ r. ⌜ Kept (now (marks .entry)) (now (marks .exit)) ⌝ }
+// Past those of n strings from c on that start before an edge.
+fn pass(s: &[u8], n: usize, c: Cursor, edge: usize) -> Passed
+    requires { ⌜ Inside (now s) c ⌝ }
+    ensures { λ r. ⌜ Passes (now (s .entry)) n c r ⌝ }
 {
     let mut d = c;
+    let mut last: usize = 0;
     let mut done: usize = 0;
     while done < n {
+        if edge <= d.at {
+            return Passed {
+                count: done,
+                place: d,
+                last,
+            };
+        }
         match strings::skip_next(s, d) {
             Moved::Refused {
                 number: _,
                 offset: _,
             } => {
-                return;
+                return Passed {
+                    count: done,
+                    place: d,
+                    last,
+                };
             }
             Moved::To(e) => {
-                note_long(marks, i + done, d.at, e.at);
+                last = past(e.at, d.at);
                 d = e;
                 done += 1;
             }
         }
     }
-}
-
-// The same, where the strings end at e: most have no room for a long one among them.
-fn look_between(s: &[u8], n: usize, c: Cursor, e: Cursor, i: usize, marks: &mut [u32; 3456])
-    requires { ⌜ Inside (now s) c × (i + n ≤ 4294967295) × (length (now marks) ≡ 3456) × (length (now s) ≤ 16777216) ⌝ }
-    ensures { λ r. ⌜ Kept (now (marks .entry)) (now (marks .exit)) ⌝ }
-{
-    if e.at < c.at + 512 {
-        return;
+    Passed {
+        count: done,
+        place: d,
+        last,
     }
-    look(s, n, c, i, marks);
 }
 
-fn few(n: usize) -> usize
-    requires { ⌜ 1 ≤ n ⌝ }
-    ensures { λ r. ⌜ (1 ≤ r) × (r ≤ n) ⌝ }
+// Whether a string of so many bytes is worth a link: fewer are compared as quickly as a link is looked for. By bytes, since a string of many short segments is dearer
+// than its characters tell.
+fn is_long(bytes: usize) -> u32
+    ensures { λ r. ⌜ r ≤ 1 ⌝ }
 {
-    if n < 16 {
-        return n;
+    if bytes < 512 {
+        return 0;
     }
-    16
+    1
 }
 
-// Past n strings from c on, the first of which is string i; the long ones are noted.
-fn pass(s: &[u8], n: usize, c: Cursor, i: usize, marks: &mut [u32; 3456]) -> Moved
-    requires { ⌜ Inside (now s) c × (i + n ≤ 4294967295) × (length (now marks) ≡ 3456) × (length (now s) ≤ 16777216) ⌝ }
-    ensures { λ r. ⌜ moved r ≡ ends (strings (now (s .entry)) n c) ⌝ }
-    ensures { λ r. ⌜ Kept (now (marks .entry)) (now (marks .exit)) ⌝ }
+// Puts all marks on the n strings of the table whose SST has its header at p and ends at e. Where the string before a mark is long the mark's link is 1.
+pub fn fill(s: &[u8], p: usize, e: usize, n: usize, marks: &mut [u32])
+    requires { ⌜ (e ≡ endAt (now s) p) × (e ≤ p + 65540) × (e ≤ length (now s)) × (1 ≤ n) × (n ≤ length (placesOf (now s) p e)) × (n < 4294967296) × (3 ≤ length (now marks)) × (length (now s) ≤ 16777216) ⌝ }
+    ensures { λ r. ⌜ Marked (now (s .entry)) p e (now (marks .exit)) × (length (now (marks .exit)) ≡ length (now (marks .entry))) ⌝ }
 {
-    let mut d = c;
-    let mut done: usize = 0;
-    while done < n {
-        let some = few(n - done);
-        match strings::skip_strings(s, some, d) {
-            Moved::Refused { number, offset } => {
-                return Moved::Refused { number, offset };
-            }
-            Moved::To(e) => {
-                look_between(s, some, d, e, i + done, marks);
-                d = e;
-                done += some;
-            }
-        }
-    }
-    Moved::To(d)
-}
-
-// ---- marks
-
-// Marks every `stride`-th of the n strings of the table whose SST has its header at p and ends at e, and notes the long ones.
-pub fn fill(s: &[u8], p: usize, e: usize, n: usize, stride: usize, marks: &mut [u32; 3456])
-    requires { ⌜ (e ≡ endAt (now s) p) × (e ≤ length (now s)) × (n ≤ length (placesOf (now s) p e)) × (1 ≤ stride) × (n ≤ 4294967295) × (stride ≤ 4294967296) × (n ≤ 1536 * stride) × (length (now marks) ≡ 3456) × (length (now s) ≤ 16777216) ⌝ }
-    ensures { λ r. ⌜ Marked (now (s .entry)) p e n stride (now (marks .exit)) ⌝ }
-{
+    let all = marks.len() / 3;
+    let step = distance(table_end(s, e) - e, all);
     let mut c = Cursor {
         seg: p,
         at: p + 12,
         end: e,
     };
-    let mut j: usize = 0;
+    let mut edge: usize = p + 12;
+    let mut long: u32 = 0;
     let mut done: usize = 0;
-    while done < n {
-        store(marks, j, c);
-        if n - done <= stride {
-            look(s, n - done, c, done, marks);
-            return;
-        }
-        match pass(s, stride, c, done, marks) {
-            Moved::Refused {
-                number: _,
-                offset: _,
-            } => {
-                return;
-            }
-            Moved::To(d) => {
-                c = d;
-                j += 1;
-                done += stride;
-            }
-        }
+    let mut j: usize = 0;
+    while j < all {
+        store(marks, j, done, c, long);
+        edge = next_edge(edge, step);
+        let x = pass(s, n - done, c, edge);
+        c = x.place;
+        long = is_long(x.last);
+        done += x.count;
+        j += 1;
     }
 }
 
-// The place of string i, from the mark before it on.
-pub fn place(
-    s: &[u8],
-    p: usize,
-    e: usize,
-    n: usize,
-    stride: usize,
-    marks: &[u32; 3456],
-    i: usize,
-) -> Cursor
-    requires { ⌜ (e ≡ endAt (now s) p) × (e ≤ length (now s)) × (n ≤ length (placesOf (now s) p e)) × (i < n) × (n ≤ 1536 * stride) × Marked (now s) p e n stride (now marks) ⌝ }
+// ---- a string found
+
+// The last mark with at most i strings before it.
+pub fn mark_before(marks: &[u32], i: usize) -> usize
+    requires { ⌜ (3 ≤ length (now marks)) × (beforeAt (now marks) 0 ≡ 0) ⌝ }
+    ensures { λ r. ⌜ (3 * r + 2 < length (now (marks .entry))) × (beforeAt (now (marks .entry)) r ≤ i) ⌝ }
+{
+    let mut low: usize = 0;
+    let mut high = marks.len() / 3;
+    while 1 < high - low {
+        let middle = low + (high - low) / 2;
+        if i < bytes::u32_as_usize(marks[3 * middle]) {
+            high = middle;
+        } else {
+            low = middle;
+        }
+    }
+    low
+}
+
+// The place of string i, from mark j on.
+pub fn place(s: &[u8], p: usize, e: usize, n: usize, marks: &[u32], j: usize, i: usize) -> Cursor
+    requires { ⌜ (e ≡ endAt (now s) p) × (e ≤ p + 65540) × (e ≤ length (now s)) × (n ≤ length (placesOf (now s) p e)) × (i < n) × Marked (now s) p e (now marks) × (3 * j + 2 < length (now marks)) × (beforeAt (now marks) j ≤ i) ⌝ }
     ensures { λ r. ⌜ r ≡ placeOf (now (s .entry)) p e i ⌝ }
 {
-    let j = i / stride;
+    let before = bytes::u32_as_usize(marks[3 * j]);
     let c = mark_at(s, marks, j);
-    match strings::skip_strings(s, i % stride, c) {
+    match strings::skip_strings(s, i - before, c) {
         Moved::Refused {
             number: _,
             offset: _,

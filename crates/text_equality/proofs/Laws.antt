@@ -12,7 +12,7 @@ use borrow.Author.Tests.{eq-eqb, ne-eqb, eqb-true, eqb-false, ltb-true, ltb-fals
 use mir.Val.{Fits as FitsIn}
 use mir.Syntax.{w64}
 use Rattle.steps.specs.Choice.{pick}
-use Rattle.steps.proofs.Choice.{pick-eq, pick-ne, pick-any, refl′}
+use Rattle.steps.proofs.Choice.{pick-true, pick-false, pick-eq, pick-ne, pick-any, refl′}
 use Rattle.bytes.specs.Bytes.{numAt}
 use Rattle.segments.specs.declared.Cursor.{Cursor}
 use Rattle.segments.specs.declared.Room.{Room}
@@ -44,6 +44,22 @@ same-append [] [] l′ m′ h = refl
 same-append [] (y ∷ m) l′ m′ h = absurd (omega arith)
 same-append (x ∷ l) [] l′ m′ h = absurd (omega arith)
 same-append (x ∷ l) (y ∷ m) l′ m′ h = pick-pick (eqb x y) (same l m) (same (l ++ l′) (m ++ m′)) (same l′ m′) (same-append l m l′ m′ (omega arith))
+
+-- two lists in two parts each, of which the first are as long
+pub record Parted (l l′ l″ m m′ m″ : List ℕ) : Type 0 where
+  pub first : l ≡ l′ ++ l″
+  pub second : m ≡ m′ ++ m″
+  pub as-long : length l′ ≡ length m′
+
+module _ {l l′ l″ m m′ m″ : List ℕ} (h : Parted l l′ l″ m m′ m″) {r : Bool} (is : r ≡ same l′ m′) where
+  same-parted : same l m ≡ pick r (same l″ m″) false
+  same-parted = (let i = h .first in let j = h .second in λ z. same (i z) (j z)) ∙ same-append l′ m′ l″ m″ (h .as-long) ∙ ap (λ (b : Bool). pick b (same l″ m″) false) (sym is)
+
+  pub parted-same : r ≡ true → same l m ≡ same l″ m″
+  parted-same e = same-parted ∙ sym (pick-true _ (same l″ m″) false r e refl)
+
+  pub parted-differ : r ≡ false → false ≡ same l m
+  parted-differ e = pick-false _ (same l″ m″) false r e refl ∙ sym same-parted
 
 -- ---- a run of characters
 module _ (s t : List ℕ) (w v a b k : ℕ) (x : Bool) (inv : x ≡ same (nums s w k a) (nums t v k b)) where
@@ -309,7 +325,7 @@ module _ (here w there v n k b m c : ℕ) (f : Fits here w n k b) (g : Fits ther
   run-product i = let a = fits-fewer here w n k b m f (g .some) (g .few) .fit in omega arith
 
 -- ---- characters in segments
-readable-length : (s : List ℕ) (x : Chars) → Readable s x → length (unitsIn s x) ≡ x .count
+pub readable-length : (s : List ℕ) (x : Chars) → Readable s x → length (unitsIn s x) ≡ x .count
 readable-length s x p = by (items 8 s true (x .width) (x .count) (x .place)) (p .passes) (count-items 8 s true (x .width) (x .count) (x .place))
   where
     by : (y : Got (List ℕ)) → Passes y → Count (x .count) y → length (listOf y) ≡ x .count
@@ -361,10 +377,10 @@ module _ (s : List ℕ) (x : Chars) (p : Readable s x) (k b : ℕ) (fit : Fits (
   past-list : unitsIn s x ≡ nums s (x .width) k (x .place .at) ++ unitsIn s (pastBy x k b)
   past-list = ap listOf turn ∙ list-append (nums s (x .width) k (x .place .at)) (items 8 s true (x .width) (x .count - k) (on (x .place) b)) turn-passes
 
-  pub past-within : x .place .at + b ≤ x .place .end
+  past-within : x .place .at + b ≤ x .place .end
   past-within = let i = fit .fit in let j = p .inside .0 in omega arith
 
-  pub past-readable : Readable s (pastBy x k b)
+  past-readable : Readable s (pastBy x k b)
   past-readable = record {
     inside = (past-within, p .inside .1);
     some = p .some;
@@ -372,7 +388,7 @@ module _ (s : List ℕ) (x : Chars) (p : Readable s x) (k b : ℕ) (fit : Fits (
     passes = passes-append (nums s (x .width) k (x .place .at)) (items 8 s true (x .width) (x .count - k) (on (x .place) b)) turn-passes;
   }
 
-  pub past-room : x .place .at + k * x .width ≤ length s
+  past-room : x .place .at + k * x .width ≤ length s
   past-room = let i = past-within in let j = p .inside .1 in let m = fit .bytes in omega arith
 
 -- the two sides together: a and b are the characters where they stand, k the run
@@ -392,7 +408,7 @@ module _ (s t : List ℕ) (x y a b : Chars) (p : Ready s x a) (q : Ready t y b) 
       pub second-past : Readable t (pastBy b (k .count) (k .second))
       pub as-many : a .count - k .count ≡ b .count - k .count
       pub less : a .count - k .count < x .count
-      pub parted : same (unitsIn s x) (unitsIn t y) ≡ pick (same (nums s (a .width) (k .count) (a .place .at)) (nums t (b .width) (k .count) (b .place .at))) (same (unitsIn s (pastBy a (k .count) (k .first))) (unitsIn t (pastBy b (k .count) (k .second)))) false
+      pub parted : Parted (unitsIn s x) (nums s (a .width) (k .count) (a .place .at)) (unitsIn s (pastBy a (k .count) (k .first))) (unitsIn t y) (nums t (b .width) (k .count) (b .place .at)) (unitsIn t (pastBy b (k .count) (k .second)))
 
     pub turned : Turn
     turned = record {
@@ -406,25 +422,12 @@ module _ (s t : List ℕ) (x y a b : Chars) (p : Ready s x a) (q : Ready t y b) 
       second-past = past-readable t b (q .readable) (k .count) (k .second) there;
       as-many = ap (λ (n : ℕ). n - k .count) (p .count ∙ many ∙ sym (q .count));
       less = let i = fit .here-fits .some in let j = fit .here-fits .few in let l = p .count in omega arith;
-      parted =
-          ap (λ (l : List ℕ). same l (unitsIn t y)) (p .units ∙ past-list s a (p .readable) (k .count) (k .first) (fit .here-fits))
-          ∙ ap (λ (l : List ℕ). same (nums s (a .width) (k .count) (a .place .at) ++ unitsIn s (pastBy a (k .count) (k .first))) l) (q .units ∙ past-list t b (q .readable) (k .count) (k .second) there)
-          ∙ same-append (nums s (a .width) (k .count) (a .place .at)) (nums t (b .width) (k .count) (b .place .at)) _ _ (nums-length s (a .width) (k .count) (a .place .at) ∙ sym (nums-length t (b .width) (k .count) (b .place .at)));
+      parted = record {
+        first = p .units ∙ past-list s a (p .readable) (k .count) (k .first) (fit .here-fits);
+        second = q .units ∙ past-list t b (q .readable) (k .count) (k .second) there;
+        as-long = nums-length s (a .width) (k .count) (a .place .at) ∙ sym (nums-length t (b .width) (k .count) (b .place .at));
+      };
     }
-
-pub past-less : (s : List ℕ) (x a : Chars) → Ready s x a → (k b : ℕ) → Fits (a .place .end - a .place .at) (a .width) (a .count) k b → (x .count ≡ 0 → ⊥) → (c : Chars) → c ≡ pastBy a k b → c .count < x .count
-past-less s x a p k b f some c is = let i = f .some in let j = f .few in let l = p .count in let m = ap (λ (z : Chars). z .count) is in omega arith
-
-pub past-ready : (s : List ℕ) (x a : Chars) → Ready s x a → (k b : ℕ) → Fits (a .place .end - a .place .at) (a .width) (a .count) k b → (c : Chars) → c ≡ pastBy a k b → Readable s c
-past-ready s x a p k b f c is = subst⁻¹ (Readable s) is (past-readable s a (p .readable) k b f)
-
-pub parted-same : (x y r p : Bool) → x ≡ pick r y false → p ≡ r → p ≡ true → x ≡ y
-unfolding pick
-parted-same x y r p h i j = h ∙ ap (λ (z : Bool). pick z y false) (sym i ∙ j)
-
-pub parted-differ : (x y r p : Bool) → x ≡ pick r y false → p ≡ r → p ≡ false → false ≡ x
-unfolding pick
-parted-differ x y r p h i j = sym (h ∙ ap (λ (z : Bool). pick z y false) (sym i ∙ j))
 
 pub chars-end : (s t : List ℕ) (z : Bool) (x y : Chars) → z ≡ same (unitsIn s x) (unitsIn t y) → x .count ≡ y .count → x .count ≡ 0 → true ≡ z
 unfolding items same

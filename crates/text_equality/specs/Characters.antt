@@ -2,7 +2,10 @@
 use Prim.Native.Nat.{ℕ, _+_, _-_, _*_, _≤_, _<_}
 use mathlib.Core.Path.{_≡_}
 use mathlib.Core.Bool.{true}
-use mathlib.Core.List.{List}
+use mathlib.Core.List.{List, [], _∷_}
+use lib.ListN.{length}
+use lib.Dec.{eqb, ltb}
+use Rattle.steps.specs.Choice.{pick}
 use Rattle.bytes.specs.Bytes.{numAt}
 use Rattle.segments.specs.Segments.{listOf, on, items}
 use Rattle.segments.specs.Parts.{Inside, Passes, Fits, nums}
@@ -49,3 +52,14 @@ pub record ReadAs (s : List ℕ) (x : Chars) (us : List ℕ) : Type 0 where
 
 abbrev pub noChars : Chars
 noChars = record { count = 0; width = 1; place = record { seg = 0; at = 0; end = 0 } }
+
+-- which of two lists comes first, by the first number in which they differ: 0 where they are the same, 1 the first, 2 the second
+unfoldable pub orderOf : List ℕ → List ℕ → ℕ
+orderOf [] [] = 0
+orderOf [] (y ∷ m) = 1
+orderOf (x ∷ l) [] = 2
+orderOf (x ∷ l) (y ∷ m) = pick (eqb x y) (orderOf l m) (pick (ltb x y) 1 2)
+
+-- of two strings the one with fewer characters comes first
+unfoldable pub rankOf : List ℕ → List ℕ → ℕ
+rankOf l m = orderOf (length l ∷ l) (length m ∷ m)

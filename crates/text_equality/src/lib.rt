@@ -8,7 +8,7 @@ ghost use Rattle.text_result.specs.TextResult.{isText, stringAt, textAt};
 ghost use Rattle.reading.specs.Reading.{saysText, textAfter};
 ghost use Rattle.differences.specs.Differences.{same, charsOf};
 ghost use Rattle.differences.specs.Units.{unitsBy};
-ghost use Rattle.text_equality.specs.Characters.{Readable, unitsIn, Ready, pastBy, RunFits, Lanes, Skips, ReadAs, noChars};
+ghost use Rattle.text_equality.specs.Characters.{Readable, unitsIn, Ready, pastBy, RunFits, Lanes, Skips, ReadAs, noChars, orderOf, rankOf};
 use record::Header;
 use segments::Cursor;
 use segments::Moved;
@@ -220,40 +220,60 @@ pub fn same_chars(s: &[u8], x: Chars, t: &[u8], y: Chars) -> bool
     }
 }
 
-// ---- a number made of a string's characters, the same for the same characters: strings with two numbers needn't be compared. Only speed rests on it
+// ---- which of two strings comes first: 0 where they have the same characters, 1 the first, 2 the second
 
-// From h on, by k characters more.
-fn print_run(s: &[u8], w: usize, p: usize, k: usize, h: u64) -> u64
-    requires { ⌜ (1 ≤ w) × (w ≤ 2) × (p + k * w ≤ length (now s)) × (h < 4294967296) ⌝ }
-    ensures { λ r. ⌜ r < 4294967296 ⌝ }
+// Of k characters of w bytes at p and of v bytes at q.
+fn order_run(s: &[u8], w: usize, p: usize, t: &[u8], v: usize, q: usize, k: usize) -> u8
+    requires { ⌜ (1 ≤ w) × (w ≤ 2) × (p + k * w ≤ length (now s)) × (1 ≤ v) × (v ≤ 2) × (q + k * v ≤ length (now t)) ⌝ }
+    ensures { λ r. ⌜ r ≡ orderOf (nums (now (s .entry)) w k p) (nums (now (t .entry)) v k q) ⌝ }
 {
     let mut a = p;
+    let mut b = q;
     let mut left = k;
-    let mut r = h;
     while 0 < left {
-        let unit = bytes::u16_as_u64(segments::unit_at(s, w, a));
-        r = (r * 31 + unit) % 4294967296;
+        let x = segments::unit_at(s, w, a);
+        let y = segments::unit_at(t, v, b);
+        if x != y {
+            if x < y {
+                return 1;
+            }
+            return 2;
+        }
         a += w;
+        b += v;
         left -= 1;
     }
-    r
+    0
 }
 
-pub fn print(s: &[u8], x: Chars) -> u64
-    requires { ⌜ Readable (now s) x ⌝ }
-    ensures { λ r. ⌜ r < 4294967296 ⌝ }
+// Of two strings; the one with fewer characters comes first.
+pub fn rank(s: &[u8], x: Chars, t: &[u8], y: Chars) -> u8
+    requires { ⌜ Readable (now s) x × Readable (now t) y ⌝ }
+    ensures { λ r. ⌜ r ≡ rankOf (unitsIn (now (s .entry)) x) (unitsIn (now (t .entry)) y) ⌝ }
 {
+    if x.count != y.count {
+        if x.count < y.count {
+            return 1;
+        }
+        return 2;
+    }
     let mut c = x;
-    let mut h: u64 = 0;
+    let mut d = y;
     loop {
         if c.count == 0 {
-            return h;
+            return 0;
         }
         let a = room_of(s, c);
+        let b = room_of(t, d);
         let e = a.place;
-        let k = segments::fit_items(e.end - e.at, a.width, a.count);
-        h = print_run(s, a.width, e.at, k.count, h);
-        c = past(a, k.count, k.bytes);
+        let f = b.place;
+        let k = run_of(e.end - e.at, a.width, f.end - f.at, b.width, a.count);
+        let r = order_run(s, a.width, e.at, t, b.width, f.at, k.count);
+        if r != 0 {
+            return r;
+        }
+        c = past(a, k.count, k.first);
+        d = past(b, k.count, k.second);
     }
 }
 

@@ -6,7 +6,7 @@ ghost use Prim.Native.Nat.{_≤_, _<_};
 ghost use lib.ListN.{length};
 ghost use Rattle.reading.specs.Cells.{placeAt, listedFrom};
 ghost use Rattle.address_windows.specs.Windows.{Hint};
-ghost use Rattle.cell_equality.specs.Equality.{Tabled, Marks};
+ghost use Rattle.string_links.specs.Links.{Tabled, Marks};
 ghost use Rattle.cell_addresses.specs.Addresses.{Ascends};
 ghost use Rattle.cell_differences.specs.Merge.{puts, putTo, cellWords};
 ghost use Rattle.unordered_sheets.specs.Unordered.{Likely, Holds, Staged, Parted};
@@ -214,20 +214,18 @@ fn merge_sheets(
     v: usize,
     p: usize,
     m: u32,
-    z: &[u32; 3456],
-    f: usize,
+    z: &[u32],
     t: &[u8],
     w: usize,
     q: usize,
     n: u32,
-    u: &[u32; 3456],
-    g: usize,
+    u: &[u32],
     base: u64,
     from: u64,
     i: usize,
     out: &mut [u64],
 ) -> usize
-    requires { ⌜ Tabled (now s) p m × Marks (now s) p (now s) p m f (now z) × Tabled (now t) q n × Marks (now s) p (now t) q n g (now u) × (base < 576460752303423488) × (from ≤ 4294967296) × Ascends (listedFrom (now s) (placeAt v 0)) up × Ascends (listedFrom (now t) (placeAt w 0)) up ⌝ }
+    requires { ⌜ Tabled (now s) p m × Tabled (now t) q n × Marks (now s) p m (now z) (now t) q n (now u) × (base < 576460752303423488) × (from ≤ 4294967296) × Ascends (listedFrom (now s) (placeAt v 0)) up × Ascends (listedFrom (now t) (placeAt w 0)) up ⌝ }
     ensures { λ r. ⌜ r ≡ putTo (length (now (out .entry))) i (cellWords (now (s .entry)) v p (now (t .entry)) w q base from) ⌝ }
     ensures { λ r. ⌜ now (out .exit) ≡ puts (now (out .entry)) i (cellWords (now (s .entry)) v p (now (t .entry)) w q base from) ⌝ }
 {
@@ -242,7 +240,6 @@ fn merge_sheets(
         p,
         m,
         z,
-        f,
         t,
         w,
         up,
@@ -251,7 +248,6 @@ fn merge_sheets(
         q,
         n,
         u,
-        g,
         base,
         from,
         4294967296,
@@ -266,14 +262,12 @@ fn merge_windows(
     v: usize,
     p: usize,
     m: u32,
-    z: &[u32; 3456],
-    f: usize,
+    z: &[u32],
     t: &[u8],
     w: usize,
     q: usize,
     n: u32,
-    u: &[u32; 3456],
-    g: usize,
+    u: &[u32],
     base: u64,
     from: u64,
     a: &mut [u32],
@@ -287,7 +281,7 @@ fn merge_windows(
     i: usize,
     out: &mut [u64],
 ) -> usize
-    requires { ⌜ Tabled (now s) p m × Marks (now s) p (now s) p m f (now z) × Tabled (now t) q n × Marks (now s) p (now t) q n g (now u) × (base < 576460752303423488) × (from ≤ 4294967296) × (length (now a) ≤ 65536) × (length (now c) ≤ 65536) × (length (now e) ≤ 65536) × (length (now k) ≡ 8) × (length (now l) ≡ 8) ⌝ }
+    requires { ⌜ Tabled (now s) p m × Tabled (now t) q n × Marks (now s) p m (now z) (now t) q n (now u) × (base < 576460752303423488) × (from ≤ 4294967296) × (length (now a) ≤ 65536) × (length (now c) ≤ 65536) × (length (now e) ≤ 65536) × (length (now k) ≡ 8) × (length (now l) ≡ 8) ⌝ }
     ensures { λ r. ⌜ r ≡ putTo (length (now (out .entry))) i (cellWords (now (s .entry)) v p (now (t .entry)) w q base from) ⌝ }
     ensures { λ r. ⌜ now (out .exit) ≡ puts (now (out .entry)) i (cellWords (now (s .entry)) v p (now (t .entry)) w q base from) ⌝ }
 {
@@ -307,7 +301,7 @@ fn merge_windows(
         near = part_window(s, e, close.x, t, h, close.y, close.high, lo, near, k, l);
         let high = near.high;
         if high <= lo {
-            return merge_sheets(false, s, v, p, m, z, f, t, w, q, n, u, g, base, lo, j, out);
+            return merge_sheets(false, s, v, p, m, z, t, w, q, n, u, base, lo, j, out);
         }
         j = cell_differences::merge(
             s,
@@ -318,7 +312,6 @@ fn merge_windows(
             p,
             m,
             z,
-            f,
             t,
             w,
             false,
@@ -327,7 +320,6 @@ fn merge_windows(
             q,
             n,
             u,
-            g,
             base,
             lo,
             high,
@@ -345,20 +337,18 @@ fn with_tables(
     v: usize,
     p: usize,
     m: u32,
-    z: &[u32; 3456],
-    f: usize,
+    z: &[u32],
     t: &[u8],
     w: usize,
     q: usize,
     n: u32,
-    u: &[u32; 3456],
-    g: usize,
+    u: &[u32],
     base: u64,
     from: u64,
     i: usize,
     out: &mut [u64],
 ) -> usize
-    requires { ⌜ Tabled (now s) p m × Marks (now s) p (now s) p m f (now z) × Tabled (now t) q n × Marks (now s) p (now t) q n g (now u) × (base < 576460752303423488) × (from ≤ 4294967296) ⌝ }
+    requires { ⌜ Tabled (now s) p m × Tabled (now t) q n × Marks (now s) p m (now z) (now t) q n (now u) × (base < 576460752303423488) × (from ≤ 4294967296) ⌝ }
     ensures { λ r. ⌜ r ≡ putTo (length (now (out .entry))) i (cellWords (now (s .entry)) v p (now (t .entry)) w q base from) ⌝ }
     ensures { λ r. ⌜ now (out .exit) ≡ puts (now (out .entry)) i (cellWords (now (s .entry)) v p (now (t .entry)) w q base from) ⌝ }
 {
@@ -376,13 +366,11 @@ fn with_tables(
         p,
         m,
         z,
-        f,
         t,
         w,
         q,
         n,
         u,
-        g,
         base,
         from,
         &mut a,
@@ -399,34 +387,31 @@ fn with_tables(
 }
 
 // The differences between the cells of two sheets, which start at `v` in the first stream and at `w` in the second, from address `from` on. The tables of strings are at
-// p, with m strings, marked in z with every f-th, and at q, with n, u and g; `base` is the key of address 0. i words stand in the buffer, and the answer is how many
-// then do.
+// p, with m strings, and at q, with n, marked and linked in z and u; `base` is the key of address 0. i words stand in the buffer, and the answer is how many then do.
 pub fn merge_cells(
     s: &[u8],
     v: usize,
     p: usize,
     m: u32,
-    z: &[u32; 3456],
-    f: usize,
+    z: &[u32],
     t: &[u8],
     w: usize,
     q: usize,
     n: u32,
-    u: &[u32; 3456],
-    g: usize,
+    u: &[u32],
     base: u64,
     from: u64,
     i: usize,
     out: &mut [u64],
 ) -> usize
-    requires { ⌜ Tabled (now s) p m × Marks (now s) p (now s) p m f (now z) × Tabled (now t) q n × Marks (now s) p (now t) q n g (now u) × (base < 576460752303423488) × (from ≤ 4294967296) ⌝ }
+    requires { ⌜ Tabled (now s) p m × Tabled (now t) q n × Marks (now s) p m (now z) (now t) q n (now u) × (base < 576460752303423488) × (from ≤ 4294967296) ⌝ }
     ensures { λ r. ⌜ r ≡ putTo (length (now (out .entry))) i (cellWords (now (s .entry)) v p (now (t .entry)) w q base from) ⌝ }
     ensures { λ r. ⌜ now (out .exit) ≡ puts (now (out .entry)) i (cellWords (now (s .entry)) v p (now (t .entry)) w q base from) ⌝ }
 {
     if cell_addresses::ascends(s, v) {
         if cell_addresses::ascends(t, w) {
-            return merge_sheets(true, s, v, p, m, z, f, t, w, q, n, u, g, base, from, i, out);
+            return merge_sheets(true, s, v, p, m, z, t, w, q, n, u, base, from, i, out);
         }
     }
-    with_tables(s, v, p, m, z, f, t, w, q, n, u, g, base, from, i, out)
+    with_tables(s, v, p, m, z, t, w, q, n, u, base, from, i, out)
 }

@@ -26,14 +26,26 @@ pub enum Hostile {
     /// Text cells that each show one of 300 equal strings, with a segment for
     /// each character.
     ShortSegments,
+    /// The same with 4,096 of them.
+    ManyShortSegments,
+    /// The same, and the cells in any order.
+    TextsAnyOrder,
+    /// As with 300 of them, but they differ, in their last characters alone.
+    LastCharacters,
+    /// 600 equal strings with a segment for each character, and after them a
+    /// great many of no characters. The text cells show the later ones of the 600.
+    Crowded,
     /// Half of strings of one character, half of text cells, each with any one.
     /// The first string is another in each stream.
     ManyStrings,
+    /// Half of strings of no characters, half of text cells, each with one that
+    /// lies just before an even part of the table.
+    LaterStrings,
 }
 
 impl Hostile {
     /// All of them.
-    pub const ALL: [Hostile; 9] = [
+    pub const ALL: [Hostile; 14] = [
         Hostile::AnyOrder,
         Hostile::Anywhere,
         Hostile::Clusters,
@@ -42,7 +54,12 @@ impl Hostile {
         Hostile::TwoWidths,
         Hostile::ManyLongStrings,
         Hostile::ShortSegments,
+        Hostile::ManyShortSegments,
+        Hostile::TextsAnyOrder,
+        Hostile::LastCharacters,
+        Hostile::Crowded,
         Hostile::ManyStrings,
+        Hostile::LaterStrings,
     ];
 }
 
@@ -54,6 +71,9 @@ const ADDRESSES: usize = MOST_ROWS * 256;
 const CLUSTER: usize = 3_700;
 const LONGEST: usize = 65_535;
 const LONG_STRINGS: usize = 300;
+const MANY_STRINGS: usize = 4_096;
+const CROWD: usize = 600;
+const PARTS: usize = 2_047;
 
 /// A valid stream of about so many bytes, of as many where there are rows for
 /// it. `turn` is 0 or 1, of one pair of streams; both have the same cells.
@@ -81,10 +101,30 @@ pub(crate) fn make(hostile: Hostile, bytes: usize, turn: u32) -> Vec<u8> {
                 .for_each(|row| append_blanks(&mut stream, row));
         }
         Hostile::LongStrings | Hostile::TwoWidths => append_texts(&mut stream, texts, || turn),
-        Hostile::ManyLongStrings | Hostile::ShortSegments => {
+        Hostile::Crowded => append_texts(&mut stream, texts, || {
+            let later = rng.between(CROWD / 2, CROWD - 1) as u32;
+            later - turn
+        }),
+        Hostile::ManyLongStrings
+        | Hostile::ShortSegments
+        | Hostile::ManyShortSegments
+        | Hostile::LastCharacters => {
             // Another one in each stream, for each cell.
             let mut rng = Rng::new(turn.into());
             append_texts(&mut stream, texts, || rng.below(unique as usize) as u32);
+        }
+        Hostile::TextsAnyOrder => {
+            let mut places: Vec<_> = (0..texts).collect();
+            rng.shuffle(&mut places);
+            let mut rng = Rng::new(turn.into());
+            append_texts_at(&mut stream, places, || rng.below(unique as usize) as u32);
+        }
+        Hostile::LaterStrings => {
+            let part = (unique as usize / PARTS).max(1);
+            append_texts(&mut stream, texts, || {
+                let after = rng.between(1, PARTS) * part;
+                (after - 1).saturating_sub(rng.below(8)) as u32
+            });
         }
         Hostile::ManyStrings => append_texts(&mut stream, texts, || {
             rng.between(1, unique as usize - 1) as u32
@@ -117,6 +157,46 @@ fn append_table(stream: &mut Vec<u8>, hostile: Hostile, bytes: usize, turn: u32)
             // A header, the width and the character.
             table.shredded_string(&vec![b'a'; (long / 6).max(1)]);
         }),
+        Hostile::ManyShortSegments | Hostile::TextsAnyOrder => {
+            let characters = vec![b'a'; (bytes / 2 / MANY_STRINGS / 6).max(1)];
+            append_strings(stream, MANY_STRINGS, |table| {
+                table.shredded_string(&characters);
+            })
+        }
+        Hostile::LaterStrings => {
+            // The first string is another in each stream.
+            let mut first = [turn as u8, 0, 0, b'0'];
+            let mut length = 3 + turn as usize;
+            append_strings(stream, (bytes / 6).max(2), |table| {
+                table.whole_string(&first[..length]);
+                (first[0], length) = (0, 3);
+            })
+        }
+        Hostile::LastCharacters => {
+            let mut characters = vec![b'a'; (long / 6).max(2)];
+            let mut number = turn as usize;
+            append_strings(stream, LONG_STRINGS, |table| {
+                let [.., before, last] = &mut characters[..] else {
+                    return;
+                };
+                (*before, *last) = (number as u8, (number / 256) as u8);
+                number += 2;
+                table.shredded_string(&characters);
+            })
+        }
+        Hostile::Crowded => {
+            let empty = (bytes / 16).max(1);
+            let characters = vec![b'a'; (bytes / 16 * 5 / CROWD / 6).max(1)];
+            let mut number = 0;
+            append_strings(stream, CROWD + empty, |table| {
+                if number < CROWD {
+                    table.shredded_string(&characters);
+                } else {
+                    table.whole_string(&[0, 0, 0]);
+                }
+                number += 1;
+            })
+        }
         Hostile::ManyStrings => {
             let mut first = [1, 0, 0, b'0' + turn as u8];
             append_strings(stream, (bytes / 8).max(2), |table| {
@@ -154,8 +234,16 @@ fn append_numbers(rng: &mut Rng, stream: &mut Vec<u8>, mut places: Vec<usize>) {
     }
 }
 
-fn append_texts(stream: &mut Vec<u8>, count: usize, mut index: impl FnMut() -> u32) {
-    for place in 0..count {
+fn append_texts(stream: &mut Vec<u8>, count: usize, index: impl FnMut() -> u32) {
+    append_texts_at(stream, 0..count, index);
+}
+
+fn append_texts_at(
+    stream: &mut Vec<u8>,
+    places: impl IntoIterator<Item = usize>,
+    mut index: impl FnMut() -> u32,
+) {
+    for place in places {
         append_start(stream, kind::LABELSST, place, 10);
         stream.extend(index().to_le_bytes());
     }

@@ -143,11 +143,18 @@ fn revisions_differ_as_they_were_made() {
 }
 
 #[test]
-fn hostile_streams_pass_and_are_the_same() {
+fn hostile_streams_pass_and_are_the_same_or_differ_in_each_cell() {
     for kind in streams::Hostile::ALL {
         let (first, second) = streams::hostile(kind, 300_000);
         assert!(first.len() > 299_000 && first.len() <= 300_000, "{kind:?}");
-        assert_eq!(reader::compare(&first, &second), Ok(Vec::new()), "{kind:?}");
+        let differences = reader::compare(&first, &second).ok().map(|list| list.len());
+        let cells = reader::read(&first)
+            .ok()
+            .map(|book| book.sheets[0].cells.len());
+        match kind {
+            streams::Hostile::LastCharacters => assert_eq!(differences, cells),
+            _ => assert_eq!(differences, Some(0), "{kind:?}"),
+        }
     }
 }
 

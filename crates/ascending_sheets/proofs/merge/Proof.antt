@@ -10,10 +10,10 @@ use Rattle.ascending_sheets.proofs.merge.Statement.{statement}
 use Rattle.ascending_sheets.proofs.merge.Tie as tie
 
 abbrev Inv-loop : tie.InvT-loop
-Inv-loop s v p m z f t w q n u g common base from i out₀ x₀ y₀ k₀ j₀ out x y k j = Going s t (stringsAt s p) (stringsAt t q) (listedFrom s (placeAt v 0)) (listedFrom t (placeAt w 0)) base from i out₀ out x y k j
+Inv-loop s v p m z t w q n u common base from i out₀ x₀ y₀ k₀ j₀ out x y k j = Going s t (stringsAt s p) (stringsAt t q) (listedFrom s (placeAt v 0)) (listedFrom t (placeAt w 0)) base from i out₀ out x y k j
 
 abbrev μ-loop : tie.MeasureT-loop
-μ-loop s v p m z f t w q n u g common base from i out₀ x₀ y₀ k₀ j₀ out x y k j = 4294967296 - k
+μ-loop s v p m z t w q n u common base from i out₀ x₀ y₀ k₀ j₀ out x y k j = 4294967296 - k
 
 -- src/lib.rt:38:9
 pass-same-requires : tie.Need-pass-same-requires Inv-loop μ-loop
@@ -43,15 +43,15 @@ enum-told c = search needs
 
 -- src/lib.rt:64:41
 add-put : tie.Need-add-put Inv-loop μ-loop
-add-put c = let a = c .before .before .before .before .before .loop .inv .second .high in let b = turn-is _ _ _ turn.First (c .before .before .before .turn-of .ensures) (c .before .enum-told .given .1) in omega arith
+add-put c = let a = c .before .before .before .before .before .loop .inv .second .high in let b = turn-is _ _ _ turn.First (c .before .before .before .turn-of .ensures) (c .before .enum-told .given .1) in omega (arith, c .before .before .before .before .before .before .before .before .before .before .before .before .before .before .before .before .pre .7)
 
 -- src/lib.rt:64:40
 mul-put : tie.Need-mul-put Inv-loop μ-loop
-mul-put c = let a = c .before .before .before .before .before .loop .inv .second .high in let b = turn-is _ _ _ turn.First (c .before .before .before .turn-of .ensures) (c .before .enum-told .given .1) in omega arith
+mul-put c = let a = c .before .before .before .before .before .loop .inv .second .high in let b = turn-is _ _ _ turn.First (c .before .before .before .turn-of .ensures) (c .before .enum-told .given .1) in omega (arith, c .before .before .before .before .before .before .before .before .before .before .before .before .before .before .before .before .pre .7)
 
 -- src/lib.rt:64:40
 add-put-2 : tie.Need-add-put-2 Inv-loop μ-loop
-add-put-2 c = let a = c .before .before .before .before .before .loop .inv .second .high in let b = turn-is _ _ _ turn.First (c .before .before .before .turn-of .ensures) (c .before .enum-told .given .1) in omega arith
+add-put-2 c = let a = c .before .before .before .before .before .loop .inv .second .high in let b = turn-is _ _ _ turn.First (c .before .before .before .turn-of .ensures) (c .before .enum-told .given .1) in omega (arith, c .before .before .before .before .before .before .before .before .before .before .before .before .before .before .before .before .pre .7)
 
 -- src/lib.rt:64:17
 put-requires : tie.Need-put-requires Inv-loop μ-loop
@@ -79,15 +79,15 @@ enum-told-2 c = search needs
 
 -- src/lib.rt:70:41
 add-put-3 : tie.Need-add-put-3 Inv-loop μ-loop
-add-put-3 c = let a = c .before .before .before .before .before .loop .inv .first .high in let b = turn-is _ _ _ turn.Second (c .before .before .before .turn-of .ensures) (c .before .enum-told2 .given .1) in omega arith
+add-put-3 c = let a = c .before .before .before .before .before .loop .inv .first .high in let b = turn-is _ _ _ turn.Second (c .before .before .before .turn-of .ensures) (c .before .enum-told2 .given .1) in omega (arith, c .before .before .before .before .before .before .before .before .before .before .before .before .before .before .before .before .pre .7)
 
 -- src/lib.rt:70:40
 mul-put-2 : tie.Need-mul-put-2 Inv-loop μ-loop
-mul-put-2 c = let a = c .before .before .before .before .before .loop .inv .first .high in let b = turn-is _ _ _ turn.Second (c .before .before .before .turn-of .ensures) (c .before .enum-told2 .given .1) in omega arith
+mul-put-2 c = let a = c .before .before .before .before .before .loop .inv .first .high in let b = turn-is _ _ _ turn.Second (c .before .before .before .turn-of .ensures) (c .before .enum-told2 .given .1) in omega (arith, c .before .before .before .before .before .before .before .before .before .before .before .before .before .before .before .before .pre .7)
 
 -- src/lib.rt:70:40
 add-put-4 : tie.Need-add-put-4 Inv-loop μ-loop
-add-put-4 c = let a = c .before .before .before .before .before .loop .inv .first .high in let b = turn-is _ _ _ turn.Second (c .before .before .before .turn-of .ensures) (c .before .enum-told2 .given .1) in omega arith
+add-put-4 c = let a = c .before .before .before .before .before .loop .inv .first .high in let b = turn-is _ _ _ turn.Second (c .before .before .before .turn-of .ensures) (c .before .enum-told2 .given .1) in omega (arith, c .before .before .before .before .before .before .before .before .before .before .before .before .before .before .before .before .pre .7)
 
 -- src/lib.rt:70:17
 put-requires-2 : tie.Need-put-requires-2 Inv-loop μ-loop
@@ -115,11 +115,11 @@ enum-told-3 c = search needs
 
 -- src/lib.rt:95:21
 add-put-unequal : tie.Need-add-put-unequal Inv-loop μ-loop
-add-put-unequal c = let b = turn-is _ _ _ turn.Both (c .before .before .turn-of .ensures) (c .enum-told3 .given .1) in omega arith
+add-put-unequal c = let b = turn-is _ _ _ turn.Both (c .before .before .turn-of .ensures) (c .enum-told3 .given .1) in omega (arith, c .before .before .before .before .before .before .before .before .before .before .before .before .before .before .before .pre .7)
 
 -- src/lib.rt:80:17
 put-unequal-requires : tie.Need-put-unequal-requires Inv-loop μ-loop
-put-unequal-requires c κs = (search needs, search needs, search needs, search needs, let b = turn-is _ _ _ turn.Both (c .before .before .before .turn-of .ensures) (c .before .enum-told3 .given .1) in omega arith)
+put-unequal-requires c κs = let pre = c .before .before .before .before .before .before .before .before .before .before .before .before .before .before .before .before .pre in (pre .0, pre .1, pre .2, let b = turn-is _ _ _ turn.Both (c .before .before .before .turn-of .ensures) (c .before .enum-told3 .given .1) in omega (arith, pre .7))
 
 -- src/lib.rt:99:21
 add-k-3 : tie.Need-add-k-3 Inv-loop μ-loop
@@ -143,7 +143,7 @@ loop-less-3 c = let a = both-low _ _ _ _ _ _ _ _ _ _ _ _ _ _ _ (c .before .befor
 
 -- src/lib.rt:59:5
 loop-again-3 : tie.Need-loop-again-3 Inv-loop μ-loop
-loop-again-3 c = going-both _ _ _ _ _ _ _ _ _ _ _ _ _ _ _ (c .before .before .before .before .before .before .before .before .before .before .before .before .before .before .before .loop .inv) _ _ _ (c .before .before .before .before .before .before .before .before .before .before .before .before .before .before .before .before .before .before .before .before .before .before .before .before .pre .6) _ _ (c .before .before .before .before .pass-same2 .ensures) _ _ (turn-is _ _ _ turn.Both (c .before .before .before .before .before .before .before .before .before .before .before .before .before .turn-of .ensures) (c .before .before .before .before .before .before .before .before .before .before .before .enum-told3 .given .1)) (c .before .before .before .before .before .before .before .before .before .put-unequal .ensures .0) (c .before .before .before .before .before .before .before .before .before .put-unequal .ensures .1) (c .before .seek5 .ensures) (c .seek6 .ensures)
+loop-again-3 c = going-both _ _ _ _ _ _ _ _ _ _ _ _ _ _ _ (c .before .before .before .before .before .before .before .before .before .before .before .before .before .before .before .loop .inv) _ _ _ (c .before .before .before .before .before .before .before .before .before .before .before .before .before .before .before .before .before .before .before .before .before .before .before .before .before .before .pre .5) _ _ (c .before .before .before .before .pass-same2 .ensures) _ _ (turn-is _ _ _ turn.Both (c .before .before .before .before .before .before .before .before .before .before .before .before .before .turn-of .ensures) (c .before .before .before .before .before .before .before .before .before .before .before .enum-told3 .given .1)) (c .before .before .before .before .before .before .before .before .before .put-unequal .ensures .0) (c .before .before .before .before .before .before .before .before .before .put-unequal .ensures .1) (c .before .seek5 .ensures) (c .seek6 .ensures)
 
 -- src/lib.rt:109:17
 enum-told-4 : tie.Need-enum-told-4 Inv-loop μ-loop

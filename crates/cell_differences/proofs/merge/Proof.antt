@@ -10,20 +10,20 @@ use Rattle.cell_differences.proofs.merge.Statement.{statement}
 use Rattle.cell_differences.proofs.merge.Tie as tie
 
 abbrev Inv-loop : tie.InvT-loop
-Inv-loop s v up a ac p m z f t w down b bc q n u g base from high i out₀ x₀ y₀ k₀ j₀ out x y k j = Going s (sideList s v up a ac high) (listedFrom s (placeAt v 0)) (stringsAt s p) t (sideList t w down b bc high) (listedFrom t (placeAt w 0)) (stringsAt t q) base from i out₀ up down out x y k j
+Inv-loop s v up a ac p m z t w down b bc q n u base from high i out₀ x₀ y₀ k₀ j₀ out x y k j = Going s (sideList s v up a ac high) (listedFrom s (placeAt v 0)) (stringsAt s p) t (sideList t w down b bc high) (listedFrom t (placeAt w 0)) (stringsAt t q) base from i out₀ up down out x y k j
 
 abbrev μ-loop : tie.MeasureT-loop
-μ-loop s v up a ac p m z f t w down b bc q n u g base from high i out₀ x₀ y₀ k₀ j₀ out x y k j = 4294967296 - k
+μ-loop s v up a ac p m z t w down b bc q n u base from high i out₀ x₀ y₀ k₀ j₀ out x y k j = 4294967296 - k
 
 -- src/lib.rt:96:9
 advance-requires : tie.Need-advance-requires Inv-loop μ-loop
 unfolding placeAt
-advance-requires c κs = (search needs, start-when (c .before .before .before .before .before .args .s .now) (placeAt (c .before .before .before .before .before .args .v) 0) (c .before .before .before .before .before .args .from) (c .before .before .before .before .before .args .up) (c .before .before .before .before .before .pre .9), search needs, search needs)
+advance-requires c κs = (search needs, start-when (c .before .before .before .before .before .before .before .args .s .now) (placeAt (c .before .before .before .before .before .before .before .args .v) 0) (c .before .before .before .before .before .before .before .args .from) (c .before .before .before .before .before .before .before .args .up) (c .before .before .before .before .before .before .before .pre .8), search needs, search needs)
 
 -- src/lib.rt:107:9
 advance-requires-2 : tie.Need-advance-requires-2 Inv-loop μ-loop
 unfolding placeAt
-advance-requires-2 c κs = (search needs, start-when (c .before .before .before .before .before .before .args .t .now) (placeAt (c .before .before .before .before .before .before .args .w) 0) (c .before .before .before .before .before .before .args .from) (c .before .before .before .before .before .before .args .down) (c .before .before .before .before .before .before .pre .10), search needs, search needs)
+advance-requires-2 c κs = (search needs, start-when (c .before .before .before .before .before .before .before .before .args .t .now) (placeAt (c .before .before .before .before .before .before .before .before .args .w) 0) (c .before .before .before .before .before .before .before .before .args .from) (c .before .before .before .before .before .before .before .before .args .down) (c .before .before .before .before .before .before .before .before .pre .9), search needs, search needs)
 
 -- src/lib.rt:120:5
 loop-holds : tie.Need-loop-holds Inv-loop μ-loop
@@ -59,7 +59,7 @@ add-k c = let a = c .before .before .before .before .before .before .before .bef
 
 -- src/lib.rt:128:17
 advance-requires-3 : tie.Need-advance-requires-3 Inv-loop μ-loop
-advance-requires-3 c κs = (first-low _ _ _ _ _ _ _ _ _ _ _ _ _ _ _ _ _ _ _ (c .before .before .before .before .before .before .before .before .before .loop .inv) (turn-is _ _ _ turn.First (c .before .before .before .before .before .before .before .turn-of .ensures) (c .before .before .before .before .before .enum-told .given .1)) .0, c .before .before .before .before .before .before .before .before .before .loop .inv .first-on, search needs, search needs)
+advance-requires-3 c κs = (first-low _ _ _ _ _ _ _ _ _ _ _ _ _ _ _ _ _ _ _ (c .before .before .before .before .before .before .before .before .before .loop .inv) (turn-is _ _ _ turn.First (c .before .before .before .before .before .before .before .turn-of .ensures) (c .before .before .before .before .before .enum-told .given .1)) .0, c .before .before .before .before .before .before .before .before .before .loop .inv .first-on, c .before .before .before .before .before .before .before .before .before .before .before .before .before .before .before .before .before .before .before .pre .5, c .before .before .before .before .before .before .before .before .before .before .before .before .before .before .before .before .before .before .before .pre .6)
 
 -- src/lib.rt:120:5
 loop-less : tie.Need-loop-less Inv-loop μ-loop
@@ -95,7 +95,7 @@ add-k-2 c = let a = c .before .before .before .before .before .before .before .b
 
 -- src/lib.rt:134:17
 advance-requires-4 : tie.Need-advance-requires-4 Inv-loop μ-loop
-advance-requires-4 c κs = (second-low _ _ _ _ _ _ _ _ _ _ _ _ _ _ _ _ _ _ _ (c .before .before .before .before .before .before .before .before .before .loop .inv) (turn-is _ _ _ turn.Second (c .before .before .before .before .before .before .before .turn-of .ensures) (c .before .before .before .before .before .enum-told2 .given .1)) .0, c .before .before .before .before .before .before .before .before .before .loop .inv .second-on, search needs, search needs)
+advance-requires-4 c κs = (second-low _ _ _ _ _ _ _ _ _ _ _ _ _ _ _ _ _ _ _ (c .before .before .before .before .before .before .before .before .before .loop .inv) (turn-is _ _ _ turn.Second (c .before .before .before .before .before .before .before .turn-of .ensures) (c .before .before .before .before .before .enum-told2 .given .1)) .0, c .before .before .before .before .before .before .before .before .before .loop .inv .second-on, c .before .before .before .before .before .before .before .before .before .before .before .before .before .before .before .before .before .before .before .pre .5, c .before .before .before .before .before .before .before .before .before .before .before .before .before .before .before .before .before .before .before .pre .7)
 
 -- src/lib.rt:120:5
 loop-less-2 : tie.Need-loop-less-2 Inv-loop μ-loop
@@ -115,7 +115,7 @@ add-put-unequal c = let b = turn-is _ _ _ turn.Both (c .before .before .turn-of 
 
 -- src/lib.rt:139:17
 put-unequal-requires : tie.Need-put-unequal-requires Inv-loop μ-loop
-put-unequal-requires c κs = (search needs, search needs, search needs, search needs, let b = turn-is _ _ _ turn.Both (c .before .before .before .turn-of .ensures) (c .before .enum-told3 .given .1) in omega arith)
+put-unequal-requires c κs = let pre = c .before .before .before .before .before .before .before .before .before .before .before .before .before .before .before .pre in (pre .0, pre .1, pre .2, let b = turn-is _ _ _ turn.Both (c .before .before .before .turn-of .ensures) (c .before .enum-told3 .given .1) in omega (arith, pre .4))
 
 -- src/lib.rt:140:21
 add-k-3 : tie.Need-add-k-3 Inv-loop μ-loop
@@ -123,11 +123,11 @@ add-k-3 c = let b = turn-is _ _ _ turn.Both (c .before .before .before .before .
 
 -- src/lib.rt:143:17
 advance-requires-5 : tie.Need-advance-requires-5 Inv-loop μ-loop
-advance-requires-5 c κs = let b = turn-is _ _ _ turn.Both (c .before .before .before .before .before .before .before .before .turn-of .ensures) (c .before .before .before .before .before .before .enum-told3 .given .1) in (both-low _ _ _ _ _ _ _ _ _ _ _ _ _ _ _ _ _ _ _ (c .before .before .before .before .before .before .before .before .before .before .loop .inv) (b .1) .0, c .before .before .before .before .before .before .before .before .before .before .loop .inv .first-on, c .before .before .before .before .before .before .before .before .before .before .before .before .before .before .before .before .before .before .pre .6, c .before .before .before .before .before .before .before .before .before .before .before .before .before .before .before .before .before .before .pre .7)
+advance-requires-5 c κs = let b = turn-is _ _ _ turn.Both (c .before .before .before .before .before .before .before .before .turn-of .ensures) (c .before .before .before .before .before .before .enum-told3 .given .1) in (both-low _ _ _ _ _ _ _ _ _ _ _ _ _ _ _ _ _ _ _ (c .before .before .before .before .before .before .before .before .before .before .loop .inv) (b .1) .0, c .before .before .before .before .before .before .before .before .before .before .loop .inv .first-on, c .before .before .before .before .before .before .before .before .before .before .before .before .before .before .before .before .before .before .before .before .pre .5, c .before .before .before .before .before .before .before .before .before .before .before .before .before .before .before .before .before .before .before .before .pre .6)
 
 -- src/lib.rt:144:17
 advance-requires-6 : tie.Need-advance-requires-6 Inv-loop μ-loop
-advance-requires-6 c κs = let b = turn-is _ _ _ turn.Both (c .before .before .before .before .before .before .before .before .before .turn-of .ensures) (c .before .before .before .before .before .before .before .enum-told3 .given .1) in (both-low _ _ _ _ _ _ _ _ _ _ _ _ _ _ _ _ _ _ _ (c .before .before .before .before .before .before .before .before .before .before .before .loop .inv) (b .1) .0, follow-both _ _ _ _ _ _ _ _ _ _ _ _ _ _ _ _ _ _ _ (c .before .before .before .before .before .before .before .before .before .before .before .loop .inv) (b .0), c .before .before .before .before .before .before .before .before .before .before .before .before .before .before .before .before .before .before .before .pre .6, c .before .before .before .before .before .before .before .before .before .before .before .before .before .before .before .before .before .before .before .pre .8)
+advance-requires-6 c κs = let b = turn-is _ _ _ turn.Both (c .before .before .before .before .before .before .before .before .before .turn-of .ensures) (c .before .before .before .before .before .before .before .enum-told3 .given .1) in (both-low _ _ _ _ _ _ _ _ _ _ _ _ _ _ _ _ _ _ _ (c .before .before .before .before .before .before .before .before .before .before .before .loop .inv) (b .1) .0, follow-both _ _ _ _ _ _ _ _ _ _ _ _ _ _ _ _ _ _ _ (c .before .before .before .before .before .before .before .before .before .before .before .loop .inv) (b .0), c .before .before .before .before .before .before .before .before .before .before .before .before .before .before .before .before .before .before .before .before .before .pre .5, c .before .before .before .before .before .before .before .before .before .before .before .before .before .before .before .before .before .before .before .before .before .pre .7)
 
 -- src/lib.rt:120:5
 loop-less-3 : tie.Need-loop-less-3 Inv-loop μ-loop

@@ -1,5 +1,5 @@
 use Rattle.compare.proofs.Laws.{compare-laws, kept-laws}
-use Rattle.cell_equality.proofs.Laws.{tabled}
+use Rattle.string_links.proofs.Laws.{tabled}
 use Rattle.workbook.proofs.Laws.{short}
 use borrow.Author.Needs.{needs}
 use Rattle.compare.proofs.compare.Statement.{statement}

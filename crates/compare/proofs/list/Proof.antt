@@ -7,10 +7,10 @@ use Rattle.compare.proofs.list.Statement.{statement}
 use Rattle.compare.proofs.list.Tie as tie
 
 abbrev Inv-loop : tie.InvT-loop
-Inv-loop s p m z f t q n u g up common from out₀ a₀ b₀ number₀ j₀ out a b number j = Listing s p t q from out₀ out a b number j
+Inv-loop s p m z t q n u up common from out₀ a₀ b₀ number₀ j₀ out a b number j = Listing s p t q from out₀ out a b number j
 
 abbrev μ-loop : tie.MeasureT-loop
-μ-loop s p m z f t q n u g up common from out₀ a₀ b₀ number₀ j₀ out a b number j = (length s - a) + (length t - b)
+μ-loop s p m z t q n u up common from out₀ a₀ b₀ number₀ j₀ out a b number j = (length s - a) + (length t - b)
 
 -- src/lib.rt:191:5
 loop-holds : tie.Need-loop-holds Inv-loop μ-loop
@@ -34,7 +34,7 @@ mul-put-sheet c = let f = c .before .before .before .before .before .loop .inv .
 
 -- src/lib.rt:195:13
 put-sheet-requires : tie.Need-put-sheet-requires Inv-loop μ-loop
-put-sheet-requires c κs = (search needs, search needs, search needs, search needs, both-ascend _ _ _ _ _ _ _ _ _ _ _ (c .before .before .before .before .before .before .loop .inv) (c .before .before .before .before .before .before .before .before .before .before .args .up) (c .before .before .before .before .before .before .before .before .before .before .pre .4) _ _ (c .before .before .before .before .sheet-at .ensures) (c .before .before .before .sheet-at2 .ensures), search needs, c .before .before .before .before .sheet-at .ensures .narrow, c .before .before .before .sheet-at2 .ensures .narrow, listing-few _ _ _ _ _ _ _ _ _ _ _ (c .before .before .before .before .before .before .loop .inv) (search needs) (search needs))
+put-sheet-requires c κs = (search needs, search needs, search needs, both-ascend _ _ _ _ _ _ _ _ _ _ _ (c .before .before .before .before .before .before .loop .inv) (c .before .before .before .before .before .before .before .before .before .before .before .before .args .up) (c .before .before .before .before .before .before .before .before .before .before .before .before .pre .3) _ _ (c .before .before .before .before .sheet-at .ensures) (c .before .before .before .sheet-at2 .ensures), search needs, c .before .before .before .before .sheet-at .ensures .narrow, c .before .before .before .sheet-at2 .ensures .narrow, listing-few _ _ _ _ _ _ _ _ _ _ _ (c .before .before .before .before .before .before .loop .inv) (search needs) (search needs))
 
 -- src/lib.rt:198:13
 add-number : tie.Need-add-number Inv-loop μ-loop

@@ -14,7 +14,7 @@ past-requires : tie.Need-past-requires
 past-requires c κs = search needs
 
 merge-requires : tie.Need-merge-requires
-merge-requires c κs = (search needs, search needs, search needs, search needs, when-asked _ _ (c .before .before .before .before .before .before .before .pre .4) (c .before .if2 .taken) .0, when-asked _ _ (c .before .before .before .before .before .before .before .pre .4) (c .before .if2 .taken) .1, search needs, search needs, search needs)
+merge-requires c κs = (search needs, search needs, search needs, when-asked _ _ (c .before .before .before .before .before .before .before .before .before .pre .3) (c .before .if2 .taken) .0, when-asked _ _ (c .before .before .before .before .before .before .before .before .before .pre .3) (c .before .if2 .taken) .1, search needs, search needs, search needs)
 
 same-length : tie.Need-same-length
 same-length c = search needs

@@ -1,4 +1,4 @@
-use Rattle.cell_equality.proofs.Laws.{chars-string}
+use Rattle.string_links.proofs.Laws.{chars-string}
 use borrow.Author.Needs.{needs}
 use Rattle.leading_strings.proofs.chars_here.Statement.{statement}
 use Rattle.leading_strings.proofs.chars_here.Tie as tie

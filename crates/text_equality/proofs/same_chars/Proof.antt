@@ -63,11 +63,11 @@ loop-less c = let T = turned _ _ _ _ _ _ (c .before .before .before .before .bef
 
 -- src/lib.rt:103:5
 loop-again : tie.Need-loop-again Inv-loop μ-loop
-loop-again c = let T = turned _ _ _ _ _ _ (c .before .before .before .before .before .before .before .before .before .before .room-of .ensures) (c .before .before .before .before .before .before .before .before .before .room-of2 .ensures) (c .before .before .before .before .before .before .before .before .before .before .before .before .before .loop .inv .2) _ (c .before .before .before .before .run-of .ensures) in (subst⁻¹ (Readable _) (c .before .past .ensures) (T .first-past), subst⁻¹ (Readable _) (c .past2 .ensures) (T .second-past), ap (λ x. x .count) (c .before .past .ensures) ∙ T .as-many ∙ sym (ap (λ x. x .count) (c .past2 .ensures)), c .before .before .before .before .before .before .before .before .before .before .before .before .before .loop .inv .3 ∙ parted-same _ _ _ _ (T .parted) (c .before .before .before .same-run .ensures) (c .before .before .if3 .taken) ∙ same-moved _ _ _ _ _ _ (c .before .past .ensures) (c .past2 .ensures))
+loop-again c = let T = turned _ _ _ _ _ _ (c .before .before .before .before .before .before .before .before .before .before .room-of .ensures) (c .before .before .before .before .before .before .before .before .before .room-of2 .ensures) (c .before .before .before .before .before .before .before .before .before .before .before .before .before .loop .inv .2) _ (c .before .before .before .before .run-of .ensures) in (subst⁻¹ (Readable _) (c .before .past .ensures) (T .first-past), subst⁻¹ (Readable _) (c .past2 .ensures) (T .second-past), ap (λ x. x .count) (c .before .past .ensures) ∙ T .as-many ∙ sym (ap (λ x. x .count) (c .past2 .ensures)), c .before .before .before .before .before .before .before .before .before .before .before .before .before .loop .inv .3 ∙ parted-same (T .parted) (c .before .before .before .same-run .ensures) (c .before .before .if3 .taken) ∙ same-moved _ _ _ _ _ _ (c .before .past .ensures) (c .past2 .ensures))
 
 -- src/lib.rt:116:13
 returns-3 : tie.Need-returns-3 Inv-loop μ-loop
-returns-3 c = let T = turned _ _ _ _ _ _ (c .before .before .before .before .before .before .before .before .room-of .ensures) (c .before .before .before .before .before .before .before .room-of2 .ensures) (c .before .before .before .before .before .before .before .before .before .before .before .loop .inv .2) _ (c .before .before .run-of .ensures) in parted-differ _ _ _ _ (T .parted) (c .before .same-run .ensures) (c .if3 .left) ∙ sym (c .before .before .before .before .before .before .before .before .before .before .before .loop .inv .3)
+returns-3 c = let T = turned _ _ _ _ _ _ (c .before .before .before .before .before .before .before .before .room-of .ensures) (c .before .before .before .before .before .before .before .room-of2 .ensures) (c .before .before .before .before .before .before .before .before .before .before .before .loop .inv .2) _ (c .before .before .run-of .ensures) in parted-differ (T .parted) (c .before .same-run .ensures) (c .if3 .left) ∙ sym (c .before .before .before .before .before .before .before .before .before .before .before .loop .inv .3)
 
 pub same-chars-spec : {M : Type 1} → statement M
 same-chars-spec =

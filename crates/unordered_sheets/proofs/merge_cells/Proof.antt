@@ -13,7 +13,7 @@ ascends-requires-2 c κs = search needs
 
 -- src/lib.rt:415:13
 merge-sheets-requires : tie.Need-merge-sheets-requires
-merge-sheets-requires c κs = (search needs, search needs, search needs, search needs, search needs, search needs, search (up-is, needs), search (up-is, needs))
+merge-sheets-requires c κs = (search needs, search needs, search needs, search needs, search needs, search (up-is, needs), search (up-is, needs))
 
 -- src/lib.rt:415:13
 same-length : tie.Need-same-length

@@ -21,8 +21,8 @@ merge-sheets-spec =
     -- part-merge-end-2
     (λ c. search needs)
     -- merge-requires
-    (λ c κs. let p = c .before .before .before .before .before .before .before .before .pre in (p .0, p .1, p .2, p .3, p .5, p .4, omega arith, omega arith, omega arith, p .6, p .7))
+    (λ c κs. let p = c .before .before .before .before .before .before .before .before .before .before .pre in (p .0, p .1, p .2, p .4, p .3, omega arith, omega arith, omega arith, p .5, p .6))
     -- same-length
     (λ c. search needs)
     -- returns
-    (λ c. sheets-done _ _ _ _ _ _ _ _ (c .before .before .before .before .before .before .before .before .before .before .before .args .up) _ _ _ _ (c .before .before .merge .ensures)))
+    (λ c. sheets-done _ _ _ _ _ _ _ _ (c .before .before .before .before .before .before .before .before .before .before .before .before .before .args .up) _ _ _ _ (c .before .before .merge .ensures)))

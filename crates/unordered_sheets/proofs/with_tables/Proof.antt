@@ -36,7 +36,7 @@ slice-aggregate-merge-windows-8 c = search needs
 
 -- src/lib.rt:362:5
 merge-windows-requires : tie.Need-merge-windows-requires
-merge-windows-requires c κs = (search needs, search needs, search needs, search needs, search needs, search needs, search needs, search needs, search needs, search needs, search needs)
+merge-windows-requires c κs = (search needs, search needs, search needs, search needs, search needs, search needs, search needs, search needs, search needs, search needs)
 
 -- src/lib.rt:334:1
 same-length : tie.Need-same-length
