@@ -343,6 +343,9 @@ impl Comparison {
             self.journals(seed);
         }
         self.revisions(seed);
+        if seed.is_multiple_of(100) {
+            self.long_texts(seed);
+        }
         self.compacting(seed);
     }
 }
@@ -493,6 +496,7 @@ fn main() -> ExitCode {
         comparison.longest_revision(seed, &stream);
     }
     comparison.longest_new(whole);
+    comparison.hostile();
     for seed in first..first + count {
         comparison.all(seed);
     }

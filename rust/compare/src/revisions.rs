@@ -83,9 +83,28 @@ fn their_words(first: &[u8], second: &[u8]) -> Compared {
 const BEFORE: u64 = 0xABCD_ABCD_ABCD_ABCD;
 
 impl Comparison {
-    /// The whole list, and parts of it.
+    /// Two revisions that are made from a seed.
     pub fn revisions(&mut self, seed: u64) {
         let (first, second) = &streams::revisions(seed);
+        self.compare(seed, first, second);
+    }
+
+    /// Two streams with long strings, of which many are alike.
+    pub fn long_texts(&mut self, seed: u64) {
+        let (first, second) = &streams::long_texts(seed);
+        self.compare(seed, first, second);
+    }
+
+    /// Each kind that is dear to compare.
+    pub fn hostile(&mut self) {
+        for (number, kind) in (0..).zip(streams::Hostile::ALL) {
+            let (first, second) = &streams::hostile(kind, 200_000);
+            self.compare(number, first, second);
+        }
+    }
+
+    /// The whole list, and parts of it.
+    fn compare(&mut self, seed: u64, first: &[u8], second: &[u8]) {
         let wanted = their_words(first, second);
         self.met.revisions.count(&wanted);
         let differences = station::compare(first, second).map_err(ours_refused);

@@ -238,7 +238,7 @@ fn append_texts(stream: &mut Vec<u8>, count: usize, index: impl FnMut() -> u32) 
     append_texts_at(stream, 0..count, index);
 }
 
-fn append_texts_at(
+pub(crate) fn append_texts_at(
     stream: &mut Vec<u8>,
     places: impl IntoIterator<Item = usize>,
     mut index: impl FnMut() -> u32,

@@ -15,6 +15,7 @@ mod formula;
 mod hostile;
 mod journals;
 mod jumps;
+mod long_texts;
 mod pairs;
 mod places;
 mod questions;
@@ -267,8 +268,14 @@ pub fn big(kind: Big, bytes: usize) -> Vec<u8> {
     big::make(kind, bytes)
 }
 
-/// Two large valid streams that are dear to compare, of about so many bytes each;
-/// there is no difference between them.
+/// Two valid streams with long strings in their tables, many of them alike, and
+/// cells that show any of them.
+pub fn long_texts(seed: u64) -> (Vec<u8>, Vec<u8>) {
+    long_texts::make(&mut Rng::for_purpose(seed, 55))
+}
+
+/// Two large valid streams that are dear to compare, of about so many bytes each.
+/// There is no difference between them; but of `LastCharacters` each cell differs.
 pub fn hostile(kind: Hostile, bytes: usize) -> (Vec<u8>, Vec<u8>) {
     (hostile::make(kind, bytes, 0), hostile::make(kind, bytes, 1))
 }
