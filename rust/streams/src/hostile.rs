@@ -32,6 +32,9 @@ pub enum Hostile {
     TextsAnyOrder,
     /// As with 300 of them, but they differ, in their last characters alone.
     LastCharacters,
+    /// As many such strings as make two for each even part of the table, over
+    /// nearly the whole stream; they are the same in both, and one cell shows one.
+    Unshown,
     /// 600 equal strings with a segment for each character, and after them a
     /// great many of no characters. The text cells show the later ones of the 600.
     Crowded,
@@ -45,7 +48,7 @@ pub enum Hostile {
 
 impl Hostile {
     /// All of them.
-    pub const ALL: [Hostile; 14] = [
+    pub const ALL: [Hostile; 15] = [
         Hostile::AnyOrder,
         Hostile::Anywhere,
         Hostile::Clusters,
@@ -57,6 +60,7 @@ impl Hostile {
         Hostile::ManyShortSegments,
         Hostile::TextsAnyOrder,
         Hostile::LastCharacters,
+        Hostile::Unshown,
         Hostile::Crowded,
         Hostile::ManyStrings,
         Hostile::LaterStrings,
@@ -74,6 +78,7 @@ const LONG_STRINGS: usize = 300;
 const MANY_STRINGS: usize = 4_096;
 const CROWD: usize = 600;
 const PARTS: usize = 2_047;
+const UNSHOWN: usize = 2_112;
 
 /// A valid stream of about so many bytes, of as many where there are rows for
 /// it. `turn` is 0 or 1, of one pair of streams; both have the same cells.
@@ -101,6 +106,7 @@ pub(crate) fn make(hostile: Hostile, bytes: usize, turn: u32) -> Vec<u8> {
                 .for_each(|row| append_blanks(&mut stream, row));
         }
         Hostile::LongStrings | Hostile::TwoWidths => append_texts(&mut stream, texts, || turn),
+        Hostile::Unshown => append_texts(&mut stream, texts.min(1), || unique - 1),
         Hostile::Crowded => append_texts(&mut stream, texts, || {
             let later = rng.between(CROWD / 2, CROWD - 1) as u32;
             later - turn
@@ -172,17 +178,10 @@ fn append_table(stream: &mut Vec<u8>, hostile: Hostile, bytes: usize, turn: u32)
                 (first[0], length) = (0, 3);
             })
         }
-        Hostile::LastCharacters => {
-            let mut characters = vec![b'a'; (long / 6).max(2)];
-            let mut number = turn as usize;
-            append_strings(stream, LONG_STRINGS, |table| {
-                let [.., before, last] = &mut characters[..] else {
-                    return;
-                };
-                (*before, *last) = (number as u8, (number / 256) as u8);
-                number += 2;
-                table.shredded_string(&characters);
-            })
+        Hostile::LastCharacters => append_numbered(stream, LONG_STRINGS, long / 6, turn),
+        Hostile::Unshown => {
+            let room = bytes.saturating_sub(UNSHOWN * 8 + 200);
+            append_numbered(stream, UNSHOWN, room / UNSHOWN / 6, 0)
         }
         Hostile::Crowded => {
             let empty = (bytes / 16).max(1);
@@ -215,6 +214,19 @@ fn append_strings(
     let mut table = TableWriter::start(stream);
     (0..count).for_each(|_| append(&mut table));
     table.finish()
+}
+
+/// So many strings with a segment for each character, which end in numbers from
+/// `first` on, each two more than the one before.
+fn append_numbered(stream: &mut Vec<u8>, count: usize, length: usize, first: u32) -> u32 {
+    let mut characters = vec![b'a'; length.saturating_sub(2)];
+    let mut number = first as u16;
+    append_strings(stream, count, |table| {
+        characters.truncate(length.saturating_sub(2));
+        characters.extend(number.to_be_bytes());
+        number += 2;
+        table.shredded_string(&characters);
+    })
 }
 
 /// So many places over the whole sheet, in clusters of so many neighbours.

@@ -146,7 +146,8 @@ fn revisions_differ_as_they_were_made() {
 fn hostile_streams_pass_and_are_the_same_or_differ_in_each_cell() {
     for kind in streams::Hostile::ALL {
         let (first, second) = streams::hostile(kind, 300_000);
-        assert!(first.len() > 299_000 && first.len() <= 300_000, "{kind:?}");
+        // Where strings alone fill it, not to the last byte.
+        assert!(first.len() > 270_000 && first.len() <= 300_000, "{kind:?}");
         let differences = reader::compare(&first, &second).ok().map(|list| list.len());
         let cells = reader::read(&first)
             .ok()
