@@ -77,7 +77,7 @@ const LONGEST: usize = 65_535;
 const LONG_STRINGS: usize = 300;
 const MANY_STRINGS: usize = 4_096;
 const CROWD: usize = 600;
-const PARTS: usize = 2_047;
+const PARTS: usize = 1_055;
 const UNSHOWN: usize = 2_112;
 
 /// A valid stream of about so many bytes, of as many where there are rows for
