@@ -1,5 +1,5 @@
 //! The time to compare two streams: revisions of 16,000,000 bytes that differ in ten cells, and two that are dear to compare, each twice as long as the one
-//! before, until a second is over, with how many times a mixed stream of that size takes. The proved library against a plain compare with the same checks, in turn, and against the second reader's.
+//! before, until ten seconds are over, with how many times a mixed stream of that size takes. The proved library against a plain compare with the same checks, in turn, and against the second reader's.
 
 mod plain;
 
@@ -97,7 +97,7 @@ fn run_revisions(kind: Big) -> (bool, f64) {
     (same, ours)
 }
 
-/// The first size at which two streams that are dear to compare take over a second, or the largest; the plain compare goes as far as half a second takes it. `mixed` is what a
+/// The first size at which two streams that are dear to compare take over ten seconds, or the largest; the plain compare goes as far as half a second takes it. `mixed` is what a
 /// mixed stream of `BYTES` takes.
 fn run_hostile(kind: Hostile, mixed: f64) -> bool {
     let mut bytes = BYTES >> 10;
@@ -112,7 +112,7 @@ fn run_hostile(kind: Hostile, mixed: f64) -> bool {
             same &=
                 told.is_some() && told == time(&mut plain.1, || plain::compare(&first, &second));
         }
-        if took > 1e3 || bytes == BYTES {
+        if took > 1e4 || bytes == BYTES {
             println!(
                 "{kind:?}: {bytes} bytes each, {took:.1} ms, {:.0} times the mixed stream; plain {:.1} ms for {} bytes{}",
                 took / (mixed * bytes as f64 / BYTES as f64),
