@@ -44,8 +44,9 @@ impl Big {
     ];
 }
 
-pub(crate) const BOF_SIZE: usize = HEADER_SIZE + 16;
+const BOF_SIZE: usize = HEADER_SIZE + 16;
 pub(crate) const EOF_SIZE: usize = HEADER_SIZE;
+pub(crate) const TEXT_SIZE: usize = HEADER_SIZE + 10;
 const BOUNDSHEET_SIZE: usize = HEADER_SIZE + 9;
 
 /// A valid stream of exactly so many bytes, at least 200; what has no room for
@@ -54,29 +55,64 @@ pub(crate) fn make(big: Big, bytes: usize) -> Vec<u8> {
     if big == Big::Reversed {
         return reversed(bytes);
     }
-    let mut rng = Rng::new(big as u64 + 1);
-    let mut stream = Vec::with_capacity(bytes);
-    append_bof(&mut stream, bof::GLOBALS);
-    append_boundsheet(&mut stream, 0);
-    let unique = append_table(&mut rng, &mut stream, big, bytes);
-    append_header(&mut stream, kind::EOF, 0);
-    let position = (stream.len() as u32).to_le_bytes();
-    stream[BOF_SIZE + HEADER_SIZE..][..4].copy_from_slice(&position);
-    append_bof(&mut stream, bof::WORKSHEET);
-    append_cells(&mut rng, &mut stream, big, unique, bytes - EOF_SIZE);
-    append_header(&mut stream, kind::EOF, 0);
+    let mut stream = one_sheet(
+        &mut Rng::new(big as u64 + 1),
+        bytes,
+        |rng, stream| append_table(rng, stream, big, bytes),
+        |rng, stream, unique| append_cells(rng, stream, big, unique, bytes - EOF_SIZE),
+    );
     stream.resize(bytes, 0);
     stream
 }
 
-pub(crate) fn append_bof(stream: &mut Vec<u8>, kind: u16) {
+/// A workbook of one worksheet, of about so many bytes: its string table, which
+/// `append_table` makes and counts, and its cells.
+pub(crate) fn one_sheet(
+    rng: &mut Rng,
+    bytes: usize,
+    append_table: impl FnOnce(&mut Rng, &mut Vec<u8>) -> u32,
+    append_cells: impl FnOnce(&mut Rng, &mut Vec<u8>, u32),
+) -> Vec<u8> {
+    let mut stream = Vec::with_capacity(bytes);
+    append_bof(&mut stream, bof::GLOBALS);
+    append_boundsheet(&mut stream, 0);
+    let unique = append_table(rng, &mut stream);
+    append_header(&mut stream, kind::EOF, 0);
+    let position = (stream.len() as u32).to_le_bytes();
+    stream[BOF_SIZE + HEADER_SIZE..][..4].copy_from_slice(&position);
+    append_bof(&mut stream, bof::WORKSHEET);
+    append_cells(rng, &mut stream, unique);
+    append_header(&mut stream, kind::EOF, 0);
+    stream
+}
+
+/// Text cells at these places, row after row, each with the next index.
+pub(crate) fn append_texts(
+    stream: &mut Vec<u8>,
+    places: impl IntoIterator<Item = usize>,
+    mut index: impl FnMut() -> u32,
+) {
+    for place in places {
+        append_start(stream, kind::LABELSST, place, TEXT_SIZE - HEADER_SIZE);
+        stream.extend(index().to_le_bytes());
+    }
+}
+
+/// Header, row, column and format of a cell, 256 to a row.
+pub(crate) fn append_start(stream: &mut Vec<u8>, kind: u16, place: usize, size: usize) {
+    append_header(stream, kind, size);
+    stream.extend(((place / 256) as u16).to_le_bytes());
+    stream.extend([(place % 256) as u8, 0, 15, 0]);
+}
+
+fn append_bof(stream: &mut Vec<u8>, kind: u16) {
     append_header(stream, kind::BOF, 16);
     stream.extend(0x0600u16.to_le_bytes());
     stream.extend(kind.to_le_bytes());
     stream.extend([0; 12]);
 }
 
-pub(crate) fn append_boundsheet(stream: &mut Vec<u8>, position: usize) {
+fn append_boundsheet(stream: &mut Vec<u8>, position: usize) {
     append_header(stream, kind::BOUNDSHEET, 9);
     stream.extend((position as u32).to_le_bytes());
     stream.extend([0, 0, 1, 0, b'a']);

@@ -2,8 +2,8 @@
 //! in the order in which they are to be told, or where their texts are far to
 //! find or long to compare.
 
-use crate::big::{append_bof, append_boundsheet, TableWriter, BOF_SIZE, EOF_SIZE};
-use crate::record::{append_header, bof, kind, HEADER_SIZE};
+use crate::big::{append_start, append_texts, one_sheet, TableWriter, EOF_SIZE, TEXT_SIZE};
+use crate::record::{append_header, kind, HEADER_SIZE};
 use crate::rng::Rng;
 
 /// What such a stream is made of, all in one worksheet.
@@ -33,7 +33,8 @@ pub enum Hostile {
     /// As with 300 of them, but they differ, in their last characters alone.
     LastCharacters,
     /// As many such strings as make two for each even part of the table, over
-    /// nearly the whole stream; they are the same in both, and one cell shows one.
+    /// nearly the whole stream; they are the same in both, and the cells that
+    /// there is room for show the last.
     Unshown,
     /// 600 equal strings with a segment for each character, and after them a
     /// great many of no characters. The text cells show the later ones of the 600.
@@ -68,7 +69,6 @@ impl Hostile {
 }
 
 const NUMBER_SIZE: usize = HEADER_SIZE + 14;
-const TEXT_SIZE: usize = HEADER_SIZE + 10;
 const BLANKS_SIZE: usize = HEADER_SIZE + 6 + 2 * 256;
 const MOST_ROWS: usize = 65_536;
 const ADDRESSES: usize = MOST_ROWS * 256;
@@ -83,61 +83,63 @@ const UNSHOWN: usize = 2_112;
 /// A valid stream of about so many bytes, of as many where there are rows for
 /// it. `turn` is 0 or 1, of one pair of streams; both have the same cells.
 pub(crate) fn make(hostile: Hostile, bytes: usize, turn: u32) -> Vec<u8> {
-    let mut rng = Rng::new(hostile as u64 + 100);
-    let mut stream = Vec::with_capacity(bytes);
-    append_bof(&mut stream, bof::GLOBALS);
-    append_boundsheet(&mut stream, 0);
-    let unique = append_table(&mut stream, hostile, bytes, turn);
-    append_header(&mut stream, kind::EOF, 0);
-    let position = (stream.len() as u32).to_le_bytes();
-    stream[BOF_SIZE + HEADER_SIZE..][..4].copy_from_slice(&position);
-    append_bof(&mut stream, bof::WORKSHEET);
-    let room = bytes.saturating_sub(stream.len() + EOF_SIZE);
+    one_sheet(
+        &mut Rng::new(hostile as u64 + 100),
+        bytes,
+        |_, stream| append_table(stream, hostile, bytes, turn),
+        |rng, stream, unique| {
+            let room = bytes.saturating_sub(stream.len() + EOF_SIZE);
+            append_cells(rng, stream, hostile, room, turn, unique as usize);
+        },
+    )
+}
+
+fn append_cells(
+    rng: &mut Rng,
+    stream: &mut Vec<u8>,
+    hostile: Hostile,
+    room: usize,
+    turn: u32,
+    unique: usize,
+) {
     let numbers = room / NUMBER_SIZE;
-    let texts = room / TEXT_SIZE;
+    let texts = 0..room / TEXT_SIZE;
+    // Another one in each stream, for each cell.
+    let mut unlike = Rng::new(turn.into());
+    let any = || unlike.below(unique) as u32;
     match hostile {
-        Hostile::AnyOrder => append_numbers(&mut rng, &mut stream, (0..numbers).collect()),
-        Hostile::Anywhere => append_numbers(&mut rng, &mut stream, spread(numbers, 1)),
-        Hostile::Clusters => append_numbers(&mut rng, &mut stream, spread(numbers, CLUSTER)),
+        Hostile::AnyOrder => append_numbers(rng, stream, (0..numbers).collect()),
+        Hostile::Anywhere => append_numbers(rng, stream, spread(numbers, 1)),
+        Hostile::Clusters => append_numbers(rng, stream, spread(numbers, CLUSTER)),
         Hostile::RowsReversed => {
             let rows = (room / BLANKS_SIZE).min(MOST_ROWS);
-            (0..rows)
-                .rev()
-                .for_each(|row| append_blanks(&mut stream, row));
+            (0..rows).rev().for_each(|row| append_blanks(stream, row));
         }
-        Hostile::LongStrings | Hostile::TwoWidths => append_texts(&mut stream, texts, || turn),
-        Hostile::Unshown => append_texts(&mut stream, texts.min(1), || unique - 1),
-        Hostile::Crowded => append_texts(&mut stream, texts, || {
-            let later = rng.between(CROWD / 2, CROWD - 1) as u32;
-            later - turn
+        Hostile::LongStrings | Hostile::TwoWidths => append_texts(stream, texts, || turn),
+        Hostile::Unshown => append_texts(stream, texts, || unique as u32 - 1),
+        Hostile::Crowded => append_texts(stream, texts, || {
+            rng.between(CROWD / 2, CROWD - 1) as u32 - turn
         }),
         Hostile::ManyLongStrings
         | Hostile::ShortSegments
         | Hostile::ManyShortSegments
-        | Hostile::LastCharacters => {
-            // Another one in each stream, for each cell.
-            let mut rng = Rng::new(turn.into());
-            append_texts(&mut stream, texts, || rng.below(unique as usize) as u32);
-        }
+        | Hostile::LastCharacters => append_texts(stream, texts, any),
         Hostile::TextsAnyOrder => {
-            let mut places: Vec<_> = (0..texts).collect();
+            let mut places: Vec<_> = texts.collect();
             rng.shuffle(&mut places);
-            let mut rng = Rng::new(turn.into());
-            append_texts_at(&mut stream, places, || rng.below(unique as usize) as u32);
+            append_texts(stream, places, any);
         }
         Hostile::LaterStrings => {
-            let part = (unique as usize / PARTS).max(1);
-            append_texts(&mut stream, texts, || {
+            let part = (unique / PARTS).max(1);
+            append_texts(stream, texts, || {
                 let after = rng.between(1, PARTS) * part;
                 (after - 1).saturating_sub(rng.below(8)) as u32
             });
         }
-        Hostile::ManyStrings => append_texts(&mut stream, texts, || {
-            rng.between(1, unique as usize - 1) as u32
-        }),
+        Hostile::ManyStrings => {
+            append_texts(stream, texts, || rng.between(1, unique - 1) as u32);
+        }
     }
-    append_header(&mut stream, kind::EOF, 0);
-    stream
 }
 
 /// So many strings.
@@ -169,15 +171,6 @@ fn append_table(stream: &mut Vec<u8>, hostile: Hostile, bytes: usize, turn: u32)
                 table.shredded_string(&characters);
             })
         }
-        Hostile::LaterStrings => {
-            // The first string is another in each stream.
-            let mut first = [turn as u8, 0, 0, b'0'];
-            let mut length = 3 + turn as usize;
-            append_strings(stream, (bytes / 6).max(2), |table| {
-                table.whole_string(&first[..length]);
-                (first[0], length) = (0, 3);
-            })
-        }
         Hostile::LastCharacters => append_numbered(stream, LONG_STRINGS, long / 6, turn),
         Hostile::Unshown => {
             let room = bytes.saturating_sub(UNSHOWN * 8 + 200);
@@ -196,14 +189,18 @@ fn append_table(stream: &mut Vec<u8>, hostile: Hostile, bytes: usize, turn: u32)
                 number += 1;
             })
         }
-        Hostile::ManyStrings => {
-            let mut first = [1, 0, 0, b'0' + turn as u8];
-            append_strings(stream, (bytes / 8).max(2), |table| {
-                table.whole_string(&first);
-                first[3] = b'a';
-            })
-        }
+        Hostile::ManyStrings => append_unlike(stream, bytes / 8, &[1, 0, 0, b'a'], turn),
+        Hostile::LaterStrings => append_unlike(stream, bytes / 6, &[0, 0, 0], turn),
     }
+}
+
+/// So many strings, all but the first the same, which is another in each stream.
+fn append_unlike(stream: &mut Vec<u8>, count: usize, string: &[u8], turn: u32) -> u32 {
+    let mut next = vec![1, 0, 0, b'0' + turn as u8];
+    append_strings(stream, count.max(2), |table| {
+        table.whole_string(&next);
+        next = string.to_vec();
+    })
 }
 
 fn append_strings(
@@ -244,28 +241,6 @@ fn append_numbers(rng: &mut Rng, stream: &mut Vec<u8>, mut places: Vec<usize>) {
         append_start(stream, kind::NUMBER, place, 14);
         stream.extend((place as f64).to_le_bytes());
     }
-}
-
-fn append_texts(stream: &mut Vec<u8>, count: usize, index: impl FnMut() -> u32) {
-    append_texts_at(stream, 0..count, index);
-}
-
-pub(crate) fn append_texts_at(
-    stream: &mut Vec<u8>,
-    places: impl IntoIterator<Item = usize>,
-    mut index: impl FnMut() -> u32,
-) {
-    for place in places {
-        append_start(stream, kind::LABELSST, place, 10);
-        stream.extend(index().to_le_bytes());
-    }
-}
-
-/// Header, row, column and format of a cell, row after row.
-fn append_start(stream: &mut Vec<u8>, kind: u16, place: usize, size: usize) {
-    append_header(stream, kind, size);
-    stream.extend(((place / 256) as u16).to_le_bytes());
-    stream.extend([(place % 256) as u8, 0, 15, 0]);
 }
 
 fn append_blanks(stream: &mut Vec<u8>, row: usize) {

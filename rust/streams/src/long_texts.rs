@@ -2,9 +2,8 @@
 //! same in both, in another width or in other segments, or with one character
 //! changed; and cells that show any of them, in order or not.
 
-use crate::big::{append_bof, append_boundsheet, TableWriter, BOF_SIZE};
-use crate::hostile::append_texts_at;
-use crate::record::{append_header, bof, kind, HEADER_SIZE, LONGEST_BODY};
+use crate::big::{append_texts, one_sheet, TableWriter};
+use crate::record::LONGEST_BODY;
 use crate::rng::Rng;
 
 /// What the strings of both tables are made from.
@@ -51,18 +50,15 @@ fn append_table(rng: &mut Rng, stream: &mut Vec<u8>, originals: &[Vec<u8>]) -> u
 }
 
 fn stream(rng: &mut Rng, originals: &[Vec<u8>], places: &[usize]) -> Vec<u8> {
-    let mut stream = Vec::new();
-    append_bof(&mut stream, bof::GLOBALS);
-    append_boundsheet(&mut stream, 0);
-    let unique = append_table(rng, &mut stream, originals);
-    append_header(&mut stream, kind::EOF, 0);
-    let position = (stream.len() as u32).to_le_bytes();
-    stream[BOF_SIZE + HEADER_SIZE..][..4].copy_from_slice(&position);
-    append_bof(&mut stream, bof::WORKSHEET);
-    let any = || rng.below(unique as usize) as u32;
-    append_texts_at(&mut stream, places.iter().copied(), any);
-    append_header(&mut stream, kind::EOF, 0);
-    stream
+    one_sheet(
+        rng,
+        0,
+        |rng, stream| append_table(rng, stream, originals),
+        |rng, stream, unique| {
+            let any = || rng.below(unique as usize) as u32;
+            append_texts(stream, places.iter().copied(), any);
+        },
+    )
 }
 
 pub(crate) fn make(rng: &mut Rng) -> (Vec<u8>, Vec<u8>) {

@@ -2,11 +2,9 @@
 //! no strings are used, in every width and split; records that point to strings
 //! and rows, where they go and where they stay; text cells that are passed over.
 
-use crate::big::{append_bof, append_boundsheet, TableWriter, BOF_SIZE, EOF_SIZE};
+use crate::big::{append_texts, one_sheet, TableWriter, EOF_SIZE, TEXT_SIZE};
 use crate::questions::own_strings;
-use crate::record::{
-    append_header, bof, kind, word_at, Book, Record, Tie, HEADER_SIZE, LONGEST_BODY,
-};
+use crate::record::{bof, kind, word_at, Book, Record, Tie, HEADER_SIZE, LONGEST_BODY};
 use crate::rng::Rng;
 use crate::table::{Style, Table};
 use crate::{damage, pairs, workbook, Pair, LONGEST};
@@ -335,31 +333,27 @@ pub(crate) fn growing(rng: &mut Rng, written: usize) -> Vec<u8> {
 /// A valid stream of exactly so many bytes, at least 400: a string for each forty,
 /// of which text cells show every second, in no order.
 pub(crate) fn half_used(bytes: usize) -> Vec<u8> {
-    const TEXT_SIZE: usize = HEADER_SIZE + 10;
     /// Prime to every number of strings below it.
     const STEP: usize = 1_000_003;
-    let mut rng = Rng::new(200);
-    let mut stream = Vec::with_capacity(bytes);
-    append_bof(&mut stream, bof::GLOBALS);
-    append_boundsheet(&mut stream, 0);
-    let mut table = TableWriter::start(&mut stream);
-    for _ in 0..bytes / 40 {
-        table.random_string(&mut rng, 28);
-    }
-    let used = table.finish() as usize / 2;
-    append_header(&mut stream, kind::EOF, 0);
-    let position = (stream.len() as u32).to_le_bytes();
-    stream[BOF_SIZE + HEADER_SIZE..][..4].copy_from_slice(&position);
-    append_bof(&mut stream, bof::WORKSHEET);
-    let cells = (bytes - EOF_SIZE - stream.len()) / TEXT_SIZE;
-    for place in 0..cells {
-        append_header(&mut stream, kind::LABELSST, TEXT_SIZE - HEADER_SIZE);
-        stream.extend(((place / 256) as u16).to_le_bytes());
-        stream.extend([(place % 256) as u8, 0, 15, 0]);
-        let index = place * STEP % used * 2;
-        stream.extend((index as u32).to_le_bytes());
-    }
-    append_header(&mut stream, kind::EOF, 0);
+    let mut stream = one_sheet(
+        &mut Rng::new(200),
+        bytes,
+        |rng, stream| {
+            let mut table = TableWriter::start(stream);
+            (0..bytes / 40).for_each(|_| table.random_string(rng, 28));
+            table.finish()
+        },
+        |_, stream, unique| {
+            let used = unique as usize / 2;
+            let mut cell = 0;
+            let cells = (bytes - EOF_SIZE - stream.len()) / TEXT_SIZE;
+            append_texts(stream, 0..cells, || {
+                let index = cell * STEP % used * 2;
+                cell += 1;
+                index as u32
+            });
+        },
+    );
     stream.resize(bytes, 0);
     stream
 }

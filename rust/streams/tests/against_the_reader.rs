@@ -146,16 +146,16 @@ fn revisions_differ_as_they_were_made() {
 fn hostile_streams_pass_and_are_the_same_or_differ_in_each_cell() {
     for kind in streams::Hostile::ALL {
         let (first, second) = streams::hostile(kind, 300_000);
-        // Where strings alone fill it, not to the last byte.
-        assert!(first.len() > 270_000 && first.len() <= 300_000, "{kind:?}");
-        let differences = reader::compare(&first, &second).ok().map(|list| list.len());
-        let cells = reader::read(&first)
-            .ok()
-            .map(|book| book.sheets[0].cells.len());
-        match kind {
-            streams::Hostile::LastCharacters => assert_eq!(differences, cells),
-            _ => assert_eq!(differences, Some(0), "{kind:?}"),
-        }
+        assert!(first.len() > 299_000 && first.len() <= 300_000, "{kind:?}");
+        let differences = reader::compare(&first, &second).expect("two that pass");
+        let differ = match kind {
+            streams::Hostile::LastCharacters => {
+                let book = reader::read(&first).expect("one that passes");
+                book.sheets[0].cells.len()
+            }
+            _ => 0,
+        };
+        assert_eq!(differences.len(), differ, "{kind:?}");
     }
 }
 
