@@ -34,6 +34,7 @@ use Rattle.reading.specs.declared.Scanned.the-variants as scanned
 use Rattle.reading.specs.Scan.{scanOf}
 use Rattle.reading.proofs.Laws.{count-small, record-cells}
 use Rattle.reading.proofs.Scanning.{Row, Passed as PassedOver, Scan, scan-says, scan-none}
+use Rattle.cell_addresses.specs.Addresses as addresses
 use Rattle.cell_addresses.specs.Addresses.{addressIn, hasIn, twiceAmong}
 use Rattle.address_twice.specs.declared.Window.{Window}
 use Rattle.address_twice.specs.declared.Window.the-variants as window
@@ -301,14 +302,12 @@ module _ (s : List ℕ) (at z low high : ℕ) where
   pub clear-short : z < 6 → Clear s at z low high true
   clear-short h = inl h
 
-  module _ (row first y x : ℕ) (row-is : row ≡ rowAt s at) (first-is : first ≡ firstAt s at) (y-is : y ≡ row) (x-is : x ≡ first) where
-    pub clear-before : y * 65536 + x + 256 ≤ low → Clear s at z low high true
-    clear-before h = inr (inl (omega arith))
+  pub clear-told : (row first a : ℕ) → row ≡ rowAt s at → first ≡ firstAt s at → a ≡ row * 65536 + first → a < 4294967296 → (r : Bool) → addresses.Clear a low high r → Clear s at z low high r
+  clear-told row first a i j k l true (inl h) = inr (inl (omega arith))
+  clear-told row first a i j k l true (inr h) = inr (inr (omega arith, omega arith))
+  clear-told row first a i j k l false h = tt
 
-    pub clear-after : y < 65536 → x < 65536 → high ≤ y * 65536 + x → Clear s at z low high true
-    clear-after i j h = inr (inr (omega arith, omega arith))
-
-pub ruleset clear-laws = (clear-short, clear-before, clear-after)
+pub ruleset clear-laws = (clear-short, clear-told)
 
 pub past-start : (s : List ℕ) (level from low high : ℕ) → PastClear s level from low high from
 past-start s level from low high = record { ahead = omega arith; all = λ t b i j. refl }

@@ -74,16 +74,13 @@ fn is_clear(s: &[u8], at: usize, size: usize, low: usize, high: usize) -> bool
     if size < 6 {
         return true;
     }
-    let row = bytes::u16_as_usize(bytes::u16_at(s, at + 4));
-    let first = bytes::u16_as_usize(bytes::u16_at(s, at + 6));
-    let a = row * 65536 + first;
-    if a + 256 <= low {
-        return true;
-    }
-    if high <= a {
-        return true;
-    }
-    false
+    let row = bytes::u16_at(s, at + 4);
+    let first = bytes::u16_at(s, at + 6);
+    cell_addresses::is_clear(
+        cell_addresses::address_of(row, first),
+        low as u64,
+        high as u64,
+    )
 }
 
 // Past such records, where they stand directly in the sheet: a short loop of its own, since most of a large sheet's records are outside a window.

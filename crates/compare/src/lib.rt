@@ -1,7 +1,7 @@
 // Two revisions compared: the words of their differences, as many as a lent buffer takes, from a key on.
 ghost use mathlib.Core.Path.{_≡_};
 ghost use mathlib.Core.Bool.{true, _||_};
-ghost use Prim.Native.Nat.{_+_, _-_, _*_, _≤_, _<_};
+ghost use Prim.Native.Nat.{_+_, _*_, _≤_, _<_};
 ghost use lib.ListN.{length};
 ghost use Rattle.reading.specs.Reading.{readingOf};
 ghost use Rattle.reading.specs.Cells.{placeAt, listedFrom};
@@ -151,16 +151,6 @@ fn put_name(
     i
 }
 
-// How far `from` is past `base`.
-fn past(from: u64, base: u64) -> u64
-    ensures { λ r. ⌜ r ≡ from - base ⌝ }
-{
-    if from <= base {
-        return 0;
-    }
-    from - base
-}
-
 // The words of its cells, from a key on. `up` says that the addresses ascend in both, and the first `common` strings of both tables are the same.
 fn put_cells(
     s: &[u8],
@@ -186,7 +176,7 @@ fn put_cells(
 {
     if from < key + 8589934592 {
         let base = key + 4294967296;
-        let low = past(from, base);
+        let low = cell_addresses::past(from, base);
         if up {
             return ascending_sheets::merge(s, v, p, m, z, t, w, q, n, u, common, base, low, i, out);
         }
@@ -325,7 +315,7 @@ fn list(
     j
 }
 
-// The same, with both tables of strings marked, and their long strings linked in an order: 1,056 marks on each, 12 KB.
+// The same, with both tables of strings marked, and their long strings linked in an order: 1,152 marks on each, 14 KB.
 fn list_marked(
     s: &[u8],
     p: usize,
@@ -342,11 +332,9 @@ fn list_marked(
     ensures { λ r. ⌜ r ≡ putTo (length (now (out .entry))) 0 (differences (bookOf (now (s .entry)) p) (bookOf (now (t .entry)) q) from) ⌝ }
     ensures { λ r. ⌜ now (out .exit) ≡ puts (now (out .entry)) 0 (differences (bookOf (now (s .entry)) p) (bookOf (now (t .entry)) q) from) ⌝ }
 {
-    let mut z = [0u32; 3168];
-    let mut u = [0u32; 3168];
-    let mut order = [0u16; 1056];
-    let count = string_links::mark_first(s, p, m, &mut z, &mut order);
-    string_links::mark_second(s, p, m, &z, &order, count, t, q, n, &mut u);
+    let mut z = [0u32; 3456];
+    let mut u = [0u32; 3456];
+    string_links::mark_both(s, p, m, &mut z, t, q, n, &mut u);
     list(s, p, m, &z, t, q, n, &u, up, common, from, out)
 }
 

@@ -13,13 +13,16 @@ use mir.Val.{Fits as FitsIn}
 use mir.Syntax.{w64}
 use Rattle.steps.specs.Choice.{pick}
 use Rattle.steps.proofs.Choice.{pick-true, pick-false, pick-eq, pick-ne, pick-any, refl′}
-use Rattle.bytes.specs.Bytes.{numAt}
+use Rattle.bytes.specs.Bytes.{byteAt, numAt, u16At}
 use Rattle.segments.specs.declared.Cursor.{Cursor}
-use Rattle.segments.specs.declared.Room.{Room}
-use Rattle.segments.specs.Segments.{Got, got, refused, listOf, on, room, items}
-use Rattle.segments.specs.Parts.{Passes, Fits, nums, roomed}
+use Rattle.record.specs.declared.Header.{Header}
+use Rattle.record.specs.declared.Header.the-variants.{Record, Cut, End}
+use Rattle.record.specs.Record.{headerAt}
+use Rattle.record.proofs.Laws.{whole}
+use Rattle.segments.specs.Segments.{Got, got, refused, then, listOf, on, segmentOf, nextSegment, widthOf, enter, room, items}
+use Rattle.segments.specs.Parts.{Passes, Fits, nums}
 use Rattle.segments.proofs.Laws.{append, items-fit, items-room, items-refused, list-append, passes-append, nums-length, Count, count-items}
-use Rattle.segments.proofs.Local.{ItemAt, room-item}
+use Rattle.segments.proofs.Local.{need-is, room-item, refused-not}
 use Rattle.differences.specs.Differences.{same, charsFrom, charsOf}
 use Rattle.text_equality.specs.declared.Chars.{Chars}
 use Rattle.text_equality.specs.declared.Run.{Run}
@@ -310,6 +313,9 @@ module _ (w p k r n : ℕ) (few : r ≤ k) (room : p + k * w ≤ n) where
   pub skip-left : p + r * w + (k - r) * w ≤ n
   skip-left = let e = parted in omega arith
 
+pub long-same : (s t : List ℕ) (w p v q k r : ℕ) (b : Bool) → Skips s w p t v q k r → b ≡ same (nums s w (k - r) (p + r * w)) (nums t v (k - r) (q + r * v)) → b ≡ same (nums s w k p) (nums t v k q)
+long-same s t w p v q k r b h e = e ∙ sym (h .1)
+
 -- ---- what fits in both
 pub fits-fewer : (here w n k b m : ℕ) → Fits here w n k b → 1 ≤ m → m ≤ k → Fits here w n m (m * w)
 fits-fewer here w n k b m f i j = record { some = i; few = let a = f .few in omega arith; bytes = refl; fit = let a = f .bytes in let c = f .fit in let d = mul-le-mul-right w j in omega arith }
@@ -335,32 +341,88 @@ readable-length s x p = by (items 8 s true (x .width) (x .count) (x .place)) (p 
 pub chars-apart : (s t : List ℕ) (x y : Chars) → Readable s x → Readable t y → (x .count ≡ y .count → ⊥) → false ≡ same (unitsIn s x) (unitsIn t y)
 chars-apart s t x y p q h = same-apart (unitsIn s x) (unitsIn t y) (λ e. h (sym (readable-length s x p) ∙ e ∙ readable-length t y q))
 
-module _ (s : List ℕ) (x : Chars) (p : Readable s x) (some : 1 ≤ x .count) (r : Room) (is : roomed r ≡ room 8 s true (x .width) (x .place)) where
-  pub room-not : (a b : ℕ) → r ≡ Room.Refused a b → ⊥
-  room-not a b q =
-      let e : x .count ≡ suc (x .count - 1) = omega arith in
-      subst Passes (ap (λ (l : ℕ). items 8 s true (x .width) l (x .place)) e ∙ items-refused 8 s true (x .width) (x .count - 1) (x .place) a b (sym is ∙ ap roomed q)) (p .passes)
+-- the segment after this one
+abbrev nextOf : List ℕ → ℕ → Cursor
+nextOf s p = record { seg = p; at = p + 4; end = p + 4 + u16At s (p + 2) }
 
-  module _ (a : ℕ) (e : Cursor) (h : r ≡ Room.At a e) where
-    room-got : room 8 s true (x .width) (x .place) ≡ got a e
-    room-got = sym is ∙ ap roomed h
+next-is : (n : ℕ) (s : List ℕ) (c : Cursor) (u : Unit) (d : Cursor) → nextSegment n s c ≡ got u d → d ≡ nextOf s (c .end)
+unfolding nextSegment
+next-is n s c u d e = subst Holds e (pick-any Holds _ (by (headerAt s (c .end)) refl) tt)
+  where
+    Holds : Got Unit → Type 0
+    Holds (got v d) = d ≡ nextOf s (c .end)
+    Holds (refused m o) = Unit {0}
 
-    item : ItemAt s (x .place) (x .width) a e
-    item = room-item 8 s true (x .width) (x .place) a e (p .inside) room-got
+    by : (h : Header) → headerAt s (c .end) ≡ h → Holds (segmentOf n (c .end) h)
+    by (Record k z e) q = let w = whole s (c .end) k z e q in pick-any Holds _ tt (ap (λ (i : ℕ). record { seg = c .end; at = c .end + 4; end = i }) (w .end ∙ ap (λ (i : ℕ). c .end + 4 + i) (w .size)))
+    by Cut q = tt
+    by End q = tt
 
-    same-items : items 8 s true (x .width) (x .count) (x .place) ≡ items 8 s true a (x .count) e
-    same-items =
-        let k : x .count ≡ suc (x .count - 1) = omega arith in
-        ap (λ (l : ℕ). items 8 s true (x .width) l (x .place)) k ∙ items-room 8 s true (x .width) (x .count - 1) (x .place) a e (p .some) (p .inside) room-got
-        ∙ ap (λ (l : ℕ). items 8 s true a l e) (sym k)
+-- the first of them stands in this segment, or in the next one where this one has ended
+module _ (s : List ℕ) (x : Chars) (p : Readable s x) (some : 1 ≤ x .count) where
+  stands : {A : Type 0} → ((v : ℕ) (d : Cursor) → room 8 s true (x .width) (x .place) ≡ got v d → A) → A
+  stands {A} k = go (room 8 s true (x .width) (x .place)) refl
+    where
+      go : (y : Got ℕ) → room 8 s true (x .width) (x .place) ≡ y → A
+      go (got v d) e = k v d e
+      go (refused a b) e =
+          let i : x .count ≡ suc (x .count - 1) = omega arith in
+          absurd (subst Passes (ap (λ (l : ℕ). items 8 s true (x .width) l (x .place)) i ∙ items-refused 8 s true (x .width) (x .count - 1) (x .place) a b e) (p .passes))
 
-    pub room-ready : Ready s x (record { count = x .count; width = a; place = e })
-    room-ready = record {
-      readable = record { inside = item .inside; some = item .some (p .some); small = item .small (p .small); passes = subst Passes same-items (p .passes) };
-      count = refl;
-      units = ap listOf same-items;
-      here = item .here;
-    }
+  ready : (v : ℕ) (d : Cursor) → room 8 s true (x .width) (x .place) ≡ got v d → Ready s x (record { count = x .count; width = v; place = d })
+  ready v d e =
+      let item = room-item 8 s true (x .width) (x .place) v d (p .inside) e in
+      let k : x .count ≡ suc (x .count - 1) = omega arith in
+      let same-items : items 8 s true (x .width) (x .count) (x .place) ≡ items 8 s true v (x .count) d =
+      ap (λ (l : ℕ). items 8 s true (x .width) l (x .place)) k ∙ items-room 8 s true (x .width) (x .count - 1) (x .place) v d (p .some) (p .inside) e ∙ ap (λ (l : ℕ). items 8 s true v l d) (sym k) in
+      record {
+        readable = record { inside = item .inside; some = item .some (p .some); small = item .small (p .small); passes = subst Passes same-items (p .passes) };
+        count = refl;
+        units = ap listOf same-items;
+        here = item .here;
+      }
+
+  ready-as : (v w : ℕ) (d e : Cursor) → room 8 s true (x .width) (x .place) ≡ got v d → v ≡ w → d ≡ e → Ready s x (record { count = x .count; width = w; place = e })
+  ready-as v w d e q i j = subst (λ (z : Cursor). Ready s x (record { count = x .count; width = w; place = z })) j (subst (λ (u : ℕ). Ready s x (record { count = x .count; width = u; place = d })) i (ready v d q))
+
+  pub ready-here : (x .place .at ≡ x .place .end → ⊥) → Ready s x x
+  unfolding room
+  ready-here h = stands (λ v d e. let i = need-is 8 (x .width) (x .place) v d (pick-ne _ _ _ _ _ h refl ∙ e) in ready-as v (x .width) d (x .place) e (i .width) (i .same))
+
+  module _ (full : x .place .at ≡ x .place .end) where
+    -- what is entered: its width and its place
+    entered : (v : ℕ) (d : Cursor) → room 8 s true (x .width) (x .place) ≡ got v d → (v ≡ widthOf (byteAt s (x .place .end + 4))) × (d ≡ on (nextOf s (x .place .end)) 1)
+    unfolding room
+    entered v d e = by (nextSegment 8 s (x .place)) refl (pick-eq _ _ _ _ _ full refl ∙ e)
+      where
+        by : (y : Got Unit) → nextSegment 8 s (x .place) ≡ y → then y (λ _ g. enter 8 s true (x .width) g) ≡ got v d → (v ≡ widthOf (byteAt s (x .place .end + 4))) × (d ≡ on (nextOf s (x .place .end)) 1)
+        by (got u g) q h =
+            let i = next-is 8 s (x .place) u g q in
+            let k = need-is 8 (widthOf (byteAt s (g .at))) (on g 1) v d h in
+            (k .width ∙ ap (λ (z : Cursor). widthOf (byteAt s (z .at))) i, k .same ∙ ap (λ (z : Cursor). on z 1) i)
+        by (refused a b) q h = absurd (refused-not h)
+
+    pub ready-next : (w z y : ℕ) → w ≡ widthOf (byteAt s (x .place .end + 4)) → z ≡ y → y ≡ u16At s (x .place .end + 2)
+        → Ready s x (record { count = x .count; width = w; place = record { seg = x .place .end; at = x .place .end + 4 + 1; end = x .place .end + 4 + z } })
+    ready-next w z y i j k =
+        stands (λ v d e.
+        let h = entered v d e in
+        ready-as v w d _ e (h .0 ∙ sym i) (h .1 ∙ ap (λ (n : ℕ). record { seg = x .place .end; at = x .place .end + 4 + 1; end = x .place .end + 4 + n }) (sym (j ∙ k))))
+
+    pub next-within : x .place .end + 4 + 1 ≤ length s
+    next-within =
+        stands (λ v d e.
+        let h : d .at ≡ x .place .end + 4 + 1 = ap (λ (z : Cursor). z .at) (entered v d e .1) in
+        let i = room-item 8 s true (x .width) (x .place) v d (p .inside) e .inside in
+        omega arith)
+
+    pub next-byte : x .place .end + 4 < length s
+    next-byte = let h = next-within in omega arith
+
+    pub next-word : x .place .end + 2 + 2 ≤ length s
+    next-word = let h = next-within in omega arith
+
+pub ruleset next-laws = (next-byte, next-word, next-within)
 
 -- past k of them
 module _ (s : List ℕ) (x : Chars) (p : Readable s x) (k b : ℕ) (fit : Fits (x .place .end - x .place .at) (x .width) (x .count) k b) where

@@ -12,7 +12,6 @@ ghost use Rattle.text_equality.specs.Characters.{Readable, unitsIn, Read
 use record::Header;
 use segments::Cursor;
 use segments::Moved;
-use segments::Room;
 use value::CellValue;
 use value::FormulaResult;
 
@@ -137,15 +136,14 @@ fn same_words(s: &[u8], w: usize, p: usize, t: &[u8], v: usize, q: usize, k: usi
     done
 }
 
-// Whether k characters of w bytes at p are those of v bytes at q.
-fn same_run(s: &[u8], w: usize, p: usize, t: &[u8], v: usize, q: usize, k: usize) -> bool
+// Whether k characters of w bytes at p are those of v bytes at q, one after the other.
+fn same_units(s: &[u8], w: usize, p: usize, t: &[u8], v: usize, q: usize, k: usize) -> bool
     requires { ⌜ (1 ≤ w) × (w ≤ 2) × (p + k * w ≤ length (now s)) × (1 ≤ v) × (v ≤ 2) × (q + k * v ≤ length (now t)) ⌝ }
     ensures { λ r. ⌜ r ≡ same (nums (now (s .entry)) w k p) (nums (now (t .entry)) v k q) ⌝ }
 {
-    let done = same_words(s, w, p, t, v, q, k);
-    let mut a = p + done * w;
-    let mut b = q + done * v;
-    let mut left = k - done;
+    let mut a = p;
+    let mut b = q;
+    let mut left = k;
     while 0 < left {
         if segments::unit_at(s, w, a) != segments::unit_at(t, v, b) {
             return false;
@@ -157,20 +155,44 @@ fn same_run(s: &[u8], w: usize, p: usize, t: &[u8], v: usize, q: usize, k: usize
     true
 }
 
-// The same characters, from where the first of them stands.
+// The same, by words as far as they go.
+fn same_long(s: &[u8], w: usize, p: usize, t: &[u8], v: usize, q: usize, k: usize) -> bool
+    requires { ⌜ (1 ≤ w) × (w ≤ 2) × (p + k * w ≤ length (now s)) × (1 ≤ v) × (v ≤ 2) × (q + k * v ≤ length (now t)) ⌝ }
+    ensures { λ r. ⌜ r ≡ same (nums (now (s .entry)) w k p) (nums (now (t .entry)) v k q) ⌝ }
+{
+    let done = same_words(s, w, p, t, v, q, k);
+    same_units(s, w, p + done * w, t, v, q + done * v, k - done)
+}
+
+// The same: a few are compared as quickly as words are looked for, and a segment may hold one.
+fn same_run(s: &[u8], w: usize, p: usize, t: &[u8], v: usize, q: usize, k: usize) -> bool
+    requires { ⌜ (1 ≤ w) × (w ≤ 2) × (p + k * w ≤ length (now s)) × (1 ≤ v) × (v ≤ 2) × (q + k * v ≤ length (now t)) ⌝ }
+    ensures { λ r. ⌜ r ≡ same (nums (now (s .entry)) w k p) (nums (now (t .entry)) v k q) ⌝ }
+{
+    if k < 8 {
+        return same_units(s, w, p, t, v, q, k);
+    }
+    same_long(s, w, p, t, v, q, k)
+}
+
+// The same characters, from where the first of them stands. They are known to stand there: where this segment has ended, the next one is entered without a test.
 fn room_of(s: &[u8], x: Chars) -> Chars
     requires { ⌜ Readable (now s) x × (1 ≤ x .count) ⌝ }
     ensures { λ r. ⌜ Ready (now (s .entry)) x r ⌝ }
 {
-    match segments::room_for(s, 8, true, x.width, x.place) {
-        Room::Refused {
-            number: _,
-            offset: _,
-        } => x,
-        Room::At { width, place } => Chars {
-            count: x.count,
-            width,
-            place,
+    let c = x.place;
+    let seg = c.end;
+    if c.at != seg {
+        return x;
+    }
+    let at = seg + 4;
+    Chars {
+        count: x.count,
+        width: segments::width_of(s[at]),
+        place: Cursor {
+            seg,
+            at: at + 1,
+            end: at + bytes::u16_as_usize(bytes::u16_at(s, seg + 2)),
         },
     }
 }
@@ -299,7 +321,7 @@ pub fn same_name(a: &[u8], w: usize, b: &[u8], v: usize) -> bool
     if n != chars_in(b.len(), v) {
         return false;
     }
-    same_run(a, w, 0, b, v, 0, n)
+    same_long(a, w, 0, b, v, 0, n)
 }
 
 // ---- text results
@@ -359,19 +381,16 @@ fn chars_from(s: &[u8], f: usize, p: usize) -> Chars
 {
     if text_result::is_string(s, p) {
         match record::header_at(s, p) {
-            Header::Record {
-                kind: _,
-                size: _,
-                end,
-            } => {
-                return chars_if(
-                    s,
-                    Cursor {
-                        seg: p,
-                        at: p + 4,
-                        end,
-                    },
-                );
+            Header::Record { kind: _, size, end } => {
+                let c = Cursor {
+                    seg: p,
+                    at: p + 4,
+                    end,
+                };
+                if text_result::is_plain(s, p, size, end) {
+                    return string_chars(s, c);
+                }
+                return chars_if(s, c);
             }
             Header::Cut => {
                 return none();

@@ -141,7 +141,7 @@ fn chars_size(n: usize, w: usize) -> usize
 }
 
 // Whether the STRING at p is a plain one, as most are: its string ends where it ends, and no CONTINUE follows. Nothing is said of others.
-fn is_plain(s: &[u8], p: usize, size: usize, end: usize) -> bool
+pub fn is_plain(s: &[u8], p: usize, size: usize, end: usize) -> bool
     requires { ⌜ (p + 4 + size ≤ length (now s)) × (end ≡ p + 4 + size) ⌝ }
     ensures { λ r. ⌜ PlainIf (now (s .entry)) p end r ⌝ }
 {

@@ -15,23 +15,13 @@ is-clear-spec =
     (λ c. search needs)
     -- u16-at-requires
     (λ c κs. search needs)
-    -- u16-as-usize-requires
-    (λ c κs. search needs)
     -- add-u16-at-2
     (λ c. search needs)
     -- u16-at-requires-2
     (λ c κs. search needs)
-    -- u16-as-usize-requires-2
+    -- address-of-requires
     (λ c κs. search needs)
-    -- mul-a
-    (λ c. search needs)
-    -- add-a
-    (λ c. search needs)
-    -- add-if2
-    (λ c. search needs)
+    -- is-clear-requires
+    (λ c κs. search needs)
     -- returns-2
-    (λ c. search (clear-laws, needs))
-    -- returns-3
-    (λ c. search (clear-laws, needs))
-    -- returns-4
-    (λ c. search needs))
+    (λ c. search (clear-laws, needs)))

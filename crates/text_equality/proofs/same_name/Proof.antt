@@ -16,8 +16,8 @@ returns : tie.Need-returns
 returns c = search name-laws
 
 -- src/lib.rt:134:5
-same-run-requires : tie.Need-same-run-requires
-same-run-requires c κs = (search needs, search needs, search name-laws, search needs, search needs, search name-laws)
+same-long-requires : tie.Need-same-long-requires
+same-long-requires c κs = (search needs, search needs, search name-laws, search needs, search needs, search name-laws)
 
 -- src/lib.rt:126:1
 returns-2 : tie.Need-returns-2
@@ -25,4 +25,4 @@ returns-2 c = search name-laws
 
 pub same-name-spec : {M : Type 1} → statement M
 same-name-spec =
-    tie.close (tie.spec chars-in-requires chars-in-requires-2 returns same-run-requires returns-2)
+    tie.close (tie.spec chars-in-requires chars-in-requires-2 returns same-long-requires returns-2)
