@@ -11,12 +11,11 @@ use Rattle.record.specs.declared.Header.the-variants.{Record, Cut, End}
 use Rattle.record.specs.Record.{headerAt}
 use Rattle.segments.specs.declared.Cursor.{Cursor}
 use Rattle.segments.specs.declared.Moved.{Moved}
-use Rattle.segments.specs.Segments.{Got, got, refused, listOf, on, widthOf, items}
+use Rattle.segments.specs.Segments.{Got, listOf, on, widthOf, items}
 use Rattle.segments.specs.Parts.{Inside, ends, moved, Passes}
-use Rattle.segments.proofs.Local.{refused-not}
 use Rattle.text_result.specs.TextResult.{isString, stringPlace, stringAt, body, textAt, textOf}
 use Rattle.text_result.specs.Parts.{PlainIf}
-use Rattle.text_result.proofs.Fetch.{chars, refused-is, at-none, at-string}
+use Rattle.text_result.proofs.Fetch.{chars, moved-passes, refused-is, at-none, at-string}
 use Rattle.value.specs.declared.CellValue.{CellValue}
 use Rattle.reading.specs.Reading.{saysText, onFormula, textAfter}
 use Rattle.text_equality.specs.declared.Chars.{Chars}
@@ -46,11 +45,7 @@ string-reads s c i p l n x w n-is x-is w-is =
     }
 
 pub plain-passes : (s : List ℕ) (p e : ℕ) (r : Bool) → PlainIf s p e r → r ≡ true → Passes (stringAt s (record { seg = p; at = p + 4; end = e }))
-plain-passes s p e r h i = by (stringAt s (body p e)) (h .next i)
-  where
-    by : (x : Got (List ℕ)) → got tt (record { seg = p; at = e; end = e }) ≡ ends x → Passes x
-    by (got us g) j = tt
-    by (refused a b) j = absurd (refused-not (sym j))
+plain-passes s p e r h i = moved-passes s (body p e) (Moved.To (record { seg = p; at = e; end = e })) (h .next i) _ refl
 
 -- ---- one of which something may be refused
 pub refused-reads : (s : List ℕ) (c : Cursor) (m : Moved) → moved m ≡ ends (stringAt s c) → (a b : ℕ) → m ≡ Moved.Refused a b → (x : Chars) → x ≡ noChars → ReadAs s x (listOf (stringAt s c))
