@@ -11,7 +11,6 @@ LIBDIR = $(PREFIX)/lib
 INCLUDEDIR = $(PREFIX)/include
 DATADIR = $(PREFIX)/share
 
-RT ?= rt
 CARGO ?= cargo
 INSTALL ?= install
 
@@ -38,7 +37,7 @@ FISH := $(DATADIR)/fish/vendor_completions.d/vaigunthe.fish
 all: $(ARCHIVE) $(SHARED) tool
 
 $(ARCHIVE): $(PROVED)
-	$(RT) staticlib station_c
+	tools/archive
 
 # The whole archive, nothing left undefined, and no code that would have to be changed when it is loaded.
 $(SHARED): $(ARCHIVE)

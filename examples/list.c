@@ -1,6 +1,6 @@
 /* list < STREAM: the sheets and cells of a workbook stream, a line each, by the proved library.
  *
- *     rt staticlib station_c
+ *     tools/archive
  *     cc -std=c11 -Iinclude examples/list.c target/staticlib/libstation_c.a -o list
  *
  * or, where the library is installed,

@@ -1,5 +1,5 @@
 /* The questions about a workbook stream, for C. Link libstation (make install; pkg-config station), or the archive itself,
- * target/staticlib/libstation_c.a (rt staticlib station_c).
+ * target/staticlib/libstation_c.a (tools/archive).
  *
  * Answers. Every function is defined for every argument: any bytes, any place, any number. A refusal's number is 0 where there is
  * none; what isn't answered is 0. After a refusal all lent memory holds what it held, but for a replay that an entry stopped.

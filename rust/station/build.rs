@@ -1,4 +1,4 @@
-//! Links the archive that `rt staticlib station_c` makes.
+//! Links the archive that `tools/archive` makes.
 
 use std::env;
 use std::path::PathBuf;
@@ -10,7 +10,7 @@ fn main() {
     println!("cargo:rerun-if-changed={}", archive.display());
     assert!(
         archive.exists(),
-        "{} is missing: run 'rt staticlib station_c' first",
+        "{} is missing: run 'tools/archive' first",
         archive.display()
     );
     println!("cargo:rustc-link-search=native={}", folder.display());
