@@ -1,4 +1,6 @@
 // Whether an address has two cells in a sheet, in whatever order they are listed: the rows are gone through a window at a time, with a flag for each address.
+#![tactic(auto)]
+
 ghost use Rattle.std.specs.Prelude.{◌≡◌, ◌+◌, ◌*◌, ◌%◌, ◌≤◌, ◌<◌, min, length};
 ghost use Rattle.reading.specs.Cells.{place_at, listed_from};
 ghost use Rattle.cell_addresses.specs.Addresses.{twice_among};
@@ -8,7 +10,7 @@ use reading::{Outside, Scanned};
 use record::Header;
 
 // How far a window came: an address of it has two cells; or none has, and here the next window starts, 2^32 where no cell is left; or a record goes past column 255.
-#[derive(Drop)]
+#[derive(Clone, Copy)]
 pub enum Window {
     On(usize),
     Twice,

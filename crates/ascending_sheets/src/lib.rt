@@ -1,4 +1,6 @@
 // The differences between the cells of two sheets whose addresses ascend: what both say alike is passed over record by record, the rest is merged cell by cell.
+#![tactic(auto)]
+
 ghost use Rattle.std.specs.Prelude.{◌≡◌, ◌≤◌, ◌<◌, length};
 ghost use Rattle.reading.specs.Cells.{place_at, listed_from};
 ghost use Rattle.reading.specs.Reading.{strings_at};

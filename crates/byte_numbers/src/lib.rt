@@ -1,4 +1,6 @@
 // Little-endian numbers of a byte slice, read and stored. What may be asked only within the slice says so; the questions above look first.
+#![tactic(auto)]
+
 ghost use Rattle.std.specs.Prelude.{◌≡◌, ◌+◌, ◌≤◌, ◌<◌, length, get_or};
 ghost use Rattle.std.proofs.lemmas.List.Edits.{sets};
 ghost use Rattle.byte_numbers.specs.Bytes.{u16_at, u32_at, u64_at, bytes_at, bytes_of};

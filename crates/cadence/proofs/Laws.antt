@@ -19,7 +19,7 @@ use Rattle.listing.specs.declared.Listed.TheVariants as listed
 use Rattle.listing.specs.Listing.{next_of}
 use Rattle.listing.proofs.Laws.{next_nearer}
 use Rattle.profile.specs.declared.NextPlaced.{NextPlaced}
-use Rattle.profile.specs.declared.NextPlaced.TheVariants as nextPlaced
+use Rattle.profile.specs.declared.NextPlaced.TheVariants as next_placed
 use Rattle.profile.specs.Parts.{listed_in}
 use Rattle.profile.specs.declared.Session.{Session}
 use Rattle.profile.specs.declared.Session.TheVariants as session
@@ -28,12 +28,12 @@ use Rattle.cadence.specs.declared.Row.{Row}
 use Rattle.cadence.specs.declared.Cadence.{Cadence}
 use Rattle.cadence.specs.declared.Cadence.TheVariants as cadence
 use Rattle.cadence.specs.declared.NextNumber.{NextNumber}
-use Rattle.cadence.specs.declared.NextNumber.TheVariants as nextNumber
+use Rattle.cadence.specs.declared.NextNumber.TheVariants as next_number
 use Rattle.cadence.specs.declared.NextRow.{NextRow}
-use Rattle.cadence.specs.declared.NextRow.TheVariants as nextRow
+use Rattle.cadence.specs.declared.NextRow.TheVariants as next_row
 use Rattle.cadence.specs.declared.Position.{Position}
 use Rattle.cadence.specs.declared.Start.TheVariants as start
-use Rattle.cadence.specs.declared.NextPair.TheVariants as nextPair
+use Rattle.cadence.specs.declared.NextPair.TheVariants as next_pair
 use Rattle.cadence.specs.Cadence.{row_with, elapsed_of, measured_of, pair_of, on_session}
 use Rattle.cadence.specs.Steps.{with_place, on_cell, next_number_of, on_number, seconds_row, next_row_of, position_at, on_row, next_pair_of, on_first, pairs_of}
 
@@ -53,26 +53,26 @@ module _ (s : List ℕ) (column : ℕ) (v : Place) where
   unfolding next_number_of
   number_cell c w h = ap (on_cell column) (sym h)
 
-  pub number_is : (c : Cell) (w : Place) (n : ℕ) → next_of s v ≡ listed.Cell c w → amount_in column c.value ≡ Is n → nextNumber.Number n w ≡ next_number_of s column v
+  pub number_is : (c : Cell) (w : Place) (n : ℕ) → next_of s v ≡ listed.Cell c w → amount_in column c.value ≡ Is n → next_number.Number n w ≡ next_number_of s column v
   number_is c w n h e = ap (with_place w) (sym e) ∙ number_cell c w h
 
-  pub number_end : next_of s v ≡ listed.End → nextNumber.Absent ≡ next_number_of s column v
+  pub number_end : next_of s v ≡ listed.End → next_number.Absent ≡ next_number_of s column v
   unfolding next_number_of
   number_end h = ap (on_cell column) (sym h)
 
   -- by what `next_placed` gave
   module _ {r : NextPlaced} (is : listed_in r ≡ next_of s v) where
-    pub placed_end : r ≡ nextPlaced.End → nextNumber.Absent ≡ next_number_of s column v
+    pub placed_end : r ≡ next_placed.End → next_number.Absent ≡ next_number_of s column v
     placed_end h = number_end (sym is ∙ ap listed_in h)
 
-    module _ (at : ℕ) (c : Cell) (w : Place) (h : r ≡ nextPlaced.Cell at c w) {a : Amount} (e : a ≡ amount_in column c.value) where
+    module _ (at : ℕ) (c : Cell) (w : Place) (h : r ≡ next_placed.Cell at c w) {a : Amount} (e : a ≡ amount_in column c.value) where
       by_amount : {x : Amount} → a ≡ x → with_place w x ≡ next_number_of s column v
       by_amount f = ap (with_place w) (sym f ∙ e) ∙ number_cell c w (sym is ∙ ap listed_in h)
 
-      pub placed_unfit : a ≡ Unfit → nextNumber.Absent ≡ next_number_of s column v
+      pub placed_unfit : a ≡ Unfit → next_number.Absent ≡ next_number_of s column v
       placed_unfit f = by_amount f
 
-      pub placed_number : (n : ℕ) → a ≡ Is n → nextNumber.Number n w ≡ next_number_of s column v
+      pub placed_number : (n : ℕ) → a ≡ Is n → next_number.Number n w ≡ next_number_of s column v
       placed_number n f = by_amount f
 
 pub ruleset number_laws = (placed_end, placed_unfit, placed_number)
@@ -83,44 +83,44 @@ module _ (s : List ℕ) (column : ℕ) (v : Place) (n : ℕ) (w : Place) where
     pub listed_as : next_of s v ≡ listed.Cell cell w
     pub number : amount_in column cell.value ≡ Is n
 
-  found_amount : (c : Cell) (u : Place) → next_of s v ≡ listed.Cell c u → (a : Amount) → amount_in column c.value ≡ a → with_place u a ≡ nextNumber.Number n w → Found
+  found_amount : (c : Cell) (u : Place) → next_of s v ≡ listed.Cell c u → (a : Amount) → amount_in column c.value ≡ a → with_place u a ≡ next_number.Number n w → Found
   found_amount c u i (Is m) j e = let f : u ≡ w = cc in let g : m ≡ n = cc in record { cell = c; listed_as = i ∙ ap (listed.Cell c) f; number = j ∙ ap Is g }
   found_amount c u i Unfit j e = never (cc)
 
-  found_by : (x : Listed) → next_of s v ≡ x → on_cell column x ≡ nextNumber.Number n w → Found
+  found_by : (x : Listed) → next_of s v ≡ x → on_cell column x ≡ next_number.Number n w → Found
   found_by (listed.Cell c u) i e = found_amount c u i (amount_in column c.value) refl e
   found_by listed.End i e = never (cc)
 
-  pub found : next_number_of s column v ≡ nextNumber.Number n w → Found
+  pub found : next_number_of s column v ≡ next_number.Number n w → Found
   unfolding next_number_of
   found e = found_by (next_of s v) refl e
 
-  pub number_nearer : next_number_of s column v ≡ nextNumber.Number n w → remaining s w < remaining s v
+  pub number_nearer : next_number_of s column v ≡ next_number.Number n w → remaining s w < remaining s v
   number_nearer e = let f = found e in next_nearer s v refl f.cell w f.listed_as
 
 module _ (s : List ℕ) (v : Place) (n : ℕ) (w : Place) {r : NextNumber} where
-  pub ticks_below : r ≡ next_number_of s 0 v → r ≡ nextNumber.Number n w → n < 65536
+  pub ticks_below : r ≡ next_number_of s 0 v → r ≡ next_number.Number n w → n < 65536
   unfolding limit_of pick
   ticks_below is h = let f = found s 0 v n w (sym is ∙ h) in let l = number_within 0 n f.cell.value f.number in omega arith
 
-  pub turns_below : r ≡ next_number_of s 1 v → r ≡ nextNumber.Number n w → n < 65536
+  pub turns_below : r ≡ next_number_of s 1 v → r ≡ next_number.Number n w → n < 65536
   unfolding limit_of pick
   turns_below is h = let f = found s 1 v n w (sym is ∙ h) in let l = number_within 1 n f.cell.value f.number in omega arith
 
 -- ---- the next row
 module _ (s : List ℕ) (k t u : ℕ) (v : Place) where
-  pub row_short : (a : Row) → (k ≡ 3 → ⊥) → a ≡ row_with t u 0 → nextRow.Row a v ≡ seconds_row s k t u v
+  pub row_short : (a : Row) → (k ≡ 3 → ⊥) → a ≡ row_with t u 0 → next_row.Row a v ≡ seconds_row s k t u v
   unfolding seconds_row
-  row_short a n e = pick_ne _ _ _ k 3 n (ap (λ (x : Row). nextRow.Row x v) e)
+  row_short a n e = pick_ne _ _ _ k 3 n (ap (λ (x : Row). next_row.Row x v) e)
 
   module _ (e : k ≡ 3) {r : NextNumber} (is : r ≡ next_number_of s 2 v) where
-    pub no_seconds : r ≡ nextNumber.Absent → nextRow.End ≡ seconds_row s k t u v
+    pub no_seconds : r ≡ next_number.Absent → next_row.End ≡ seconds_row s k t u v
     unfolding seconds_row
-    no_seconds h = pick_eq _ _ _ k 3 e (ap (λ (x : NextNumber). on_number x (λ n w. nextRow.Row (row_with t u n) w)) (sym h ∙ is))
+    no_seconds h = pick_eq _ _ _ k 3 e (ap (λ (x : NextNumber). on_number x (λ n w. next_row.Row (row_with t u n) w)) (sym h ∙ is))
 
-    pub row_long : (a : Row) (n : ℕ) (w : Place) → r ≡ nextNumber.Number n w → a ≡ row_with t u n → nextRow.Row a w ≡ seconds_row s k t u v
+    pub row_long : (a : Row) (n : ℕ) (w : Place) → r ≡ next_number.Number n w → a ≡ row_with t u n → next_row.Row a w ≡ seconds_row s k t u v
     unfolding seconds_row
-    row_long a n w h f = pick_eq _ _ _ k 3 e (ap (λ (x : Row). nextRow.Row x w) f ∙ ap (λ (x : NextNumber). on_number x (λ n w. nextRow.Row (row_with t u n) w)) (sym h ∙ is))
+    row_long a n w h f = pick_eq _ _ _ k 3 e (ap (λ (x : Row). next_row.Row x w) f ∙ ap (λ (x : NextNumber). on_number x (λ n w. next_row.Row (row_with t u n) w)) (sym h ∙ is))
 
 module _ (s : List ℕ) (k : ℕ) (v : Place) {r : NextNumber} (is : r ≡ next_number_of s 0 v) where
   abbrev on_turns : ℕ → NextNumber → NextRow
@@ -130,14 +130,14 @@ module _ (s : List ℕ) (k : ℕ) (v : Place) {r : NextNumber} (is : r ≡ next_
   unfolding next_row_of
   by_ticks h = ap (λ (x : NextNumber). on_number x (λ t w. on_turns t (next_number_of s 1 w))) (sym h ∙ is)
 
-  pub no_ticks : r ≡ nextNumber.Absent → nextRow.End ≡ next_row_of s k v
+  pub no_ticks : r ≡ next_number.Absent → next_row.End ≡ next_row_of s k v
   no_ticks h = by_ticks h
 
-  module _ (t : ℕ) (w : Place) (h : r ≡ nextNumber.Number t w) {q : NextNumber} (js : q ≡ next_number_of s 1 w) where
-    pub no_turns : q ≡ nextNumber.Absent → nextRow.End ≡ next_row_of s k v
+  module _ (t : ℕ) (w : Place) (h : r ≡ next_number.Number t w) {q : NextNumber} (js : q ≡ next_number_of s 1 w) where
+    pub no_turns : q ≡ next_number.Absent → next_row.End ≡ next_row_of s k v
     no_turns i = ap (on_turns t) (sym i ∙ js) ∙ by_ticks h
 
-    pub row_by : (y : NextRow) (u : ℕ) (x : Place) → q ≡ nextNumber.Number u x → y ≡ seconds_row s k t u x → y ≡ next_row_of s k v
+    pub row_by : (y : NextRow) (u : ℕ) (x : Place) → q ≡ next_number.Number u x → y ≡ seconds_row s k t u x → y ≡ next_row_of s k v
     row_by y u x i g = g ∙ ap (on_turns t) (sym i ∙ js) ∙ by_ticks h
 
 pub ruleset row_laws = (ticks_below, turns_below, row_short, no_seconds, row_long, no_ticks, no_turns, row_by)
@@ -174,19 +174,19 @@ pub ruleset pair_laws = (elapsed_wrapped, elapsed_plain, still, measured_by, pai
 
 -- ---- the steps
 module _ (s : List ℕ) (p : Position) {r : NextRow} (is : r ≡ next_row_of s p.columns p.cells) where
-  pub pair_end : r ≡ nextRow.End → nextPair.End ≡ next_pair_of s p
+  pub pair_end : r ≡ next_row.End → next_pair.End ≡ next_pair_of s p
   unfolding next_pair_of
   pair_end h = ap (on_row p) (sym h ∙ is)
 
-  pub pair_next : (b : Row) (w : Place) (a : Cadence) (q : Position) → r ≡ nextRow.Row b w → a ≡ pair_of p.earlier b → q ≡ position_at b w p.columns → nextPair.Pair a q ≡ next_pair_of s p
+  pub pair_next : (b : Row) (w : Place) (a : Cadence) (q : Position) → r ≡ next_row.Row b w → a ≡ pair_of p.earlier b → q ≡ position_at b w p.columns → next_pair.Pair a q ≡ next_pair_of s p
   unfolding next_pair_of
-  pair_next b w a q h e f = (λ j. nextPair.Pair (e j) (f j)) ∙ ap (on_row p) (sym h ∙ is)
+  pair_next b w a q h e f = (λ j. next_pair.Pair (e j) (f j)) ∙ ap (on_row p) (sym h ∙ is)
 
 module _ (s : List ℕ) (k : ℕ) (v : Place) {r : NextRow} (is : r ≡ next_row_of s k v) where
-  pub first_row : (a : Row) (w : Place) (q : Position) → r ≡ nextRow.Row a w → q ≡ position_at a w k → q ≡ on_first k v (next_row_of s k v)
+  pub first_row : (a : Row) (w : Place) (q : Position) → r ≡ next_row.Row a w → q ≡ position_at a w k → q ≡ on_first k v (next_row_of s k v)
   first_row a w q h e = e ∙ ap (on_first k v) (sym h ∙ is)
 
-  pub no_row : (a : Row) (q : Position) → r ≡ nextRow.End → a ≡ row_with 0 0 0 → q ≡ position_at a v k → q ≡ on_first k v (next_row_of s k v)
+  pub no_row : (a : Row) (q : Position) → r ≡ next_row.End → a ≡ row_with 0 0 0 → q ≡ position_at a v k → q ≡ on_first k v (next_row_of s k v)
   no_row a q h f e = e ∙ ap (λ (x : Row). position_at x v k) f ∙ ap (on_first k v) (sym h ∙ is)
 
 module _ (s : List ℕ) {r : Session} (is : r ≡ profile_of s) where

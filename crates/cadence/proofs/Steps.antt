@@ -28,38 +28,38 @@ use Rattle.cadence.specs.declared.Row.{Row}
 use Rattle.cadence.specs.declared.Cadence.{Cadence}
 use Rattle.cadence.specs.declared.Cadence.TheVariants.{Refused}
 use Rattle.cadence.specs.declared.NextNumber.{NextNumber}
-use Rattle.cadence.specs.declared.NextNumber.TheVariants as nextNumber
+use Rattle.cadence.specs.declared.NextNumber.TheVariants as next_number
 use Rattle.cadence.specs.declared.NextRow.{NextRow}
-use Rattle.cadence.specs.declared.NextRow.TheVariants as nextRow
+use Rattle.cadence.specs.declared.NextRow.TheVariants as next_row
 use Rattle.cadence.specs.declared.Position.{Position}
 use Rattle.cadence.specs.declared.NextPair.{NextPair}
-use Rattle.cadence.specs.declared.NextPair.TheVariants as nextPair
+use Rattle.cadence.specs.declared.NextPair.TheVariants as next_pair
 use Rattle.cadence.specs.Cadence.{number_in, row_with, by_two, by_three, rows_of, pair_of, neighbours}
 use Rattle.cadence.specs.Steps.{next_number_of, on_number, seconds_row, next_row_of, position_at, on_row, next_pair_of, pair_item, pairs_from, nth_pair}
 use Rattle.cadence.proofs.Laws.{number_nearer, number_is, number_end, row_short, row_long, row_by, no_ticks}
 
 -- ---- each step comes nearer the end
 module _ (s : List ℕ) (k : ℕ) (b : Row) (w : Place) where
-  nearer_seconds : (t u : ℕ) (v : Place) → seconds_row s k t u v ≡ nextRow.Row b w → remaining s w ≤ remaining s v
+  nearer_seconds : (t u : ℕ) (v : Place) → seconds_row s k t u v ≡ next_row.Row b w → remaining s w ≤ remaining s v
   unfolding seconds_row
   nearer_seconds t u v =
-      pick_by (λ (x : NextRow). x ≡ nextRow.Row b w → remaining s w ≤ remaining s v) (eqb k 3)
+      pick_by (λ (x : NextRow). x ≡ next_row.Row b w → remaining s w ≤ remaining s v) (eqb k 3)
       (λ _. by (next_number_of s 2 v) refl)
       (λ _ e. let f : v ≡ w = cc in let g = ap (remaining s) f in omega arith)
     where
-      by : (x : NextNumber) → next_number_of s 2 v ≡ x → on_number x (λ n y. nextRow.Row (row_with t u n) y) ≡ nextRow.Row b w → remaining s w ≤ remaining s v
-      by (nextNumber.Number n y) i e = let f : y ≡ w = cc in let g = ap (remaining s) f in let l = number_nearer s 2 v n y i in omega arith
-      by nextNumber.Absent i e = never (cc)
+      by : (x : NextNumber) → next_number_of s 2 v ≡ x → on_number x (λ n y. next_row.Row (row_with t u n) y) ≡ next_row.Row b w → remaining s w ≤ remaining s v
+      by (next_number.Number n y) i e = let f : y ≡ w = cc in let g = ap (remaining s) f in let l = number_nearer s 2 v n y i in omega arith
+      by next_number.Absent i e = never (cc)
 
-  nearer_turns : (t : ℕ) (v : Place) (x : NextNumber) → next_number_of s 1 v ≡ x → on_number x (λ u y. seconds_row s k t u y) ≡ nextRow.Row b w → remaining s w < remaining s v
-  nearer_turns t v (nextNumber.Number n y) i e = let l = number_nearer s 1 v n y i in let m = nearer_seconds t n y e in omega arith
-  nearer_turns t v nextNumber.Absent i e = never (cc)
+  nearer_turns : (t : ℕ) (v : Place) (x : NextNumber) → next_number_of s 1 v ≡ x → on_number x (λ u y. seconds_row s k t u y) ≡ next_row.Row b w → remaining s w < remaining s v
+  nearer_turns t v (next_number.Number n y) i e = let l = number_nearer s 1 v n y i in let m = nearer_seconds t n y e in omega arith
+  nearer_turns t v next_number.Absent i e = never (cc)
 
-  nearer_ticks : (v : Place) (x : NextNumber) → next_number_of s 0 v ≡ x → on_number x (λ t y. on_number (next_number_of s 1 y) (λ u z. seconds_row s k t u z)) ≡ nextRow.Row b w → remaining s w < remaining s v
-  nearer_ticks v (nextNumber.Number n y) i e = let l = number_nearer s 0 v n y i in let m = nearer_turns n y (next_number_of s 1 y) refl e in omega arith
-  nearer_ticks v nextNumber.Absent i e = never (cc)
+  nearer_ticks : (v : Place) (x : NextNumber) → next_number_of s 0 v ≡ x → on_number x (λ t y. on_number (next_number_of s 1 y) (λ u z. seconds_row s k t u z)) ≡ next_row.Row b w → remaining s w < remaining s v
+  nearer_ticks v (next_number.Number n y) i e = let l = number_nearer s 0 v n y i in let m = nearer_turns n y (next_number_of s 1 y) refl e in omega arith
+  nearer_ticks v next_number.Absent i e = never (cc)
 
-  pub row_nearer : (v : Place) → next_row_of s k v ≡ nextRow.Row b w → remaining s w < remaining s v
+  pub row_nearer : (v : Place) → next_row_of s k v ≡ next_row.Row b w → remaining s w < remaining s v
   unfolding next_row_of
   row_nearer v e = nearer_ticks v (next_number_of s 0 v) refl e
 
@@ -69,8 +69,8 @@ module _ (s : List ℕ) where
 
   near_row : (p : Position) (x : NextRow) → next_row_of s p.columns p.cells ≡ x → Nearer left p (pair_item (on_row p x))
   unfolding position_at
-  near_row p (nextRow.Row b w) i = row_nearer s p.columns b w p.cells i
-  near_row p nextRow.End i = tt
+  near_row p (next_row.Row b w) i = row_nearer s p.columns b w p.cells i
+  near_row p next_row.End i = tt
 
   pub pair_near : (p : Position) → Nearer left p (pair_item (next_pair_of s p))
   unfolding next_pair_of
@@ -86,19 +86,19 @@ module _ (s : List ℕ) where
     by_pair : {x : NextPair} → r ≡ x → pairs_from s p ≡ onto (pair_item x) (λ q. pairs_from s q)
     by_pair h = pairs_step p ∙ ap (λ (x : NextPair). onto (pair_item x) (λ q. pairs_from s q)) (sym is ∙ h)
 
-    pub pair_less : (a : Cadence) (q : Position) → r ≡ nextPair.Pair a q → remaining s q.cells < remaining s p.cells
-    pair_less a q h = let n : Nearer left p (pair_item (nextPair.Pair a q)) = subst (λ (x : NextPair). Nearer left p (pair_item x)) (sym is ∙ h) (pair_near p) in n
+    pub pair_less : (a : Cadence) (q : Position) → r ≡ next_pair.Pair a q → remaining s q.cells < remaining s p.cells
+    pair_less a q h = let n : Nearer left p (pair_item (next_pair.Pair a q)) = subst (λ (x : NextPair). Nearer left p (pair_item x)) (sym is ∙ h) (pair_near p) in n
 
     module _ (p₀ : Position) (n₀ n : ℕ) (inv : nth_pair s p₀ n₀ ≡ nth_pair s p n) where
-      pub nth_end : r ≡ nextPair.End → Refused 11 0 ≡ nth_pair s p₀ n₀
+      pub nth_end : r ≡ next_pair.End → Refused 11 0 ≡ nth_pair s p₀ n₀
       unfolding nth_pair
       nth_end h = nth_none (λ a. a) (Refused 11 0) (pairs_from s p) n (by_pair h) ∙ sym inv
 
-      pub nth_is : (a : Cadence) (q : Position) → r ≡ nextPair.Pair a q → n ≡ 0 → a ≡ nth_pair s p₀ n₀
+      pub nth_is : (a : Cadence) (q : Position) → r ≡ next_pair.Pair a q → n ≡ 0 → a ≡ nth_pair s p₀ n₀
       unfolding nth_pair
       nth_is a q h e = nth_here (λ a. a) (Refused 11 0) (pairs_from s p) n a (pairs_from s q) (by_pair h) e ∙ sym inv
 
-      pub nth_more : (a : Cadence) (q : Position) → r ≡ nextPair.Pair a q → (n ≡ 0 → ⊥) → nth_pair s p₀ n₀ ≡ nth_pair s q (n - 1)
+      pub nth_more : (a : Cadence) (q : Position) → r ≡ next_pair.Pair a q → (n ≡ 0 → ⊥) → nth_pair s p₀ n₀ ≡ nth_pair s q (n - 1)
       unfolding nth_pair
       nth_more a q h e = inv ∙ nth_next (λ a. a) (Refused 11 0) (pairs_from s p) n a (pairs_from s q) (by_pair h) e
 
@@ -119,7 +119,7 @@ module _ (s : List ℕ) (v : Place) where
   -- the number of the first cell, and the place of the others
   pub record Reads (column : ℕ) (c : Cell) (l : List Cell) : Type 0 where
     pub next : Place
-    pub is : next_number_of s column v ≡ nextNumber.Number (number_in column c) next
+    pub is : next_number_of s column v ≡ next_number.Number (number_in column c) next
     pub rest : listed_from s next ≡ l
 
   module _ (column m : ℕ) (c : Cell) (l : List Cell) (e : amount_in column c.value ≡ Is m) where
@@ -128,7 +128,7 @@ module _ (s : List ℕ) (v : Place) where
         let f : d ≡ c = cc in
         let g : listed_from s w ≡ l = cc in record {
           next = w;
-          is = sym (number_is s column v c w m (i ∙ ap (λ (y : Cell). listed.Cell y w) f) e) ∙ ap (λ (a : Amount). nextNumber.Number (on_amount 0 (λ n. n) a) w) (sym e);
+          is = sym (number_is s column v c w m (i ∙ ap (λ (y : Cell). listed.Cell y w) f) e) ∙ ap (λ (a : Amount). next_number.Number (on_amount 0 (λ n. n) a) w) (sym e);
           rest = g;
         }
     reads_by listed.End i h = never (cc)
@@ -139,11 +139,11 @@ module _ (s : List ℕ) (v : Place) where
 -- ---- the next row of a session
 module _ (s : List ℕ) (k n : ℕ) (v : Place) (i : ℕ) where
   pub data Ahead (l : List Placed) : Type 0 where
-    done : rows_of k (cells_in l) ≡ [] → next_row_of s k v ≡ nextRow.End → i / k ≡ n → Ahead l
-    more : (a : Row) (w : Place) (m : List Placed) (t : ℕ) → rows_of k (cells_in l) ≡ a ∷ rows_of k (cells_in m) → next_row_of s k v ≡ nextRow.Row a w → listed_from s w ≡ cells_in m → judged_from k (i + k) t m ≡ Rows n → length m < length l
+    done : rows_of k (cells_in l) ≡ [] → next_row_of s k v ≡ next_row.End → i / k ≡ n → Ahead l
+    more : (a : Row) (w : Place) (m : List Placed) (t : ℕ) → rows_of k (cells_in l) ≡ a ∷ rows_of k (cells_in m) → next_row_of s k v ≡ next_row.Row a w → listed_from s w ≡ cells_in m → judged_from k (i + k) t m ≡ Rows n → length m < length l
         → (i + k) % k ≡ 0 → (i + k) / k ≡ i / k + 1 → Ahead l
 
-no_row : (s : List ℕ) (k : ℕ) (v : Place) → listed_from s v ≡ [] → next_row_of s k v ≡ nextRow.End
+no_row : (s : List ℕ) (k : ℕ) (v : Place) → listed_from s v ≡ [] → next_row_of s k v ≡ next_row.End
 no_row s k v h = sym (no_ticks s k v refl (sym (number_end s 0 v (none_is s v h))))
 
 module _ (s : List ℕ) (n : ℕ) (v : Place) (i t : ℕ) where
@@ -161,7 +161,7 @@ module _ (s : List ℕ) (n : ℕ) (v : Place) (i t : ℕ) where
       let c = reads s v 0 a.number x.cell (cells_in (y ∷ l)) (ap (λ (j : ℕ). amount_in j x.cell.value) (sym z) ∙ a.is) h in
       let d = reads s c.next 1 b.number y.cell (cells_in l) (ap (λ (j : ℕ). amount_in j y.cell.value) (sym one) ∙ b.is) c.rest in
       more (row_with (number_in 0 x.cell) (number_in 1 y.cell) 0) d.next l b.after refl
-      (sym (row_by s 2 v refl (number_in 0 x.cell) c.next c.is refl (nextRow.Row (row_with (number_in 0 x.cell) (number_in 1 y.cell) 0) d.next) (number_in 1 y.cell) d.next d.is
+      (sym (row_by s 2 v refl (number_in 0 x.cell) c.next c.is refl (next_row.Row (row_with (number_in 0 x.cell) (number_in 1 y.cell) 0) d.next) (number_in 1 y.cell) d.next d.is
       (row_short s 2 (number_in 0 x.cell) (number_in 1 y.cell) d.next (row_with (number_in 0 x.cell) (number_in 1 y.cell) 0) (λ q. omega arith) refl)))
       d.rest (ap (λ (j : ℕ). judged_from 2 j b.after l) (let q : i + 2 ≡ i + 1 + 1 = omega arith in q) ∙ b.rest) (omega arith) (omega arith) (omega arith)
 
@@ -187,7 +187,7 @@ module _ (s : List ℕ) (n : ℕ) (v : Place) (i t : ℕ) where
       let d = reads s c.next 1 b.number y.cell (cells_in (o ∷ l)) (ap (λ (j : ℕ). amount_in j y.cell.value) (sym one) ∙ b.is) c.rest in
       let f = reads s d.next 2 g.number o.cell (cells_in l) (ap (λ (j : ℕ). amount_in j o.cell.value) (sym two) ∙ g.is) d.rest in
       more (row_with (number_in 0 x.cell) (number_in 1 y.cell) (number_in 2 o.cell)) f.next l g.after refl
-      (sym {a = nextRow.Row (row_with (number_in 0 x.cell) (number_in 1 y.cell) (number_in 2 o.cell)) f.next} (row_by s 3 v refl (number_in 0 x.cell) c.next c.is refl (nextRow.Row (row_with (number_in 0 x.cell) (number_in 1 y.cell) (number_in 2 o.cell)) f.next) (number_in 1 y.cell) d.next d.is
+      (sym {a = next_row.Row (row_with (number_in 0 x.cell) (number_in 1 y.cell) (number_in 2 o.cell)) f.next} (row_by s 3 v refl (number_in 0 x.cell) c.next c.is refl (next_row.Row (row_with (number_in 0 x.cell) (number_in 1 y.cell) (number_in 2 o.cell)) f.next) (number_in 1 y.cell) d.next d.is
       (row_long s 3 (number_in 0 x.cell) (number_in 1 y.cell) d.next refl refl (row_with (number_in 0 x.cell) (number_in 1 y.cell) (number_in 2 o.cell)) (number_in 2 o.cell) f.next f.is refl)))
       f.rest (ap (λ (j : ℕ). judged_from 3 j g.after l) (let q : i + 3 ≡ i + 1 + 1 + 1 = omega arith in q) ∙ g.rest) (omega arith) (omega arith) (omega arith)
 
@@ -222,9 +222,9 @@ module _ (s : List ℕ) (k n : ℕ) (three : TwoOrThree k) where
 
   pairs_ahead : (l : List Placed) (v : Place) (i : ℕ) (a : Row) → ((m : List Placed) → length m < length l → PairsAre m) → Ahead s k n v i l → pairs_from s (position_at a v k) ≡ pairs_in a (rows_of k (cells_in l))
   unfolding pairs_in position_at
-  pairs_ahead l v i a ih (done f g o) = position_step a v nextRow.End g ∙ ap (pairs_in a) (sym f)
+  pairs_ahead l v i a ih (done f g o) = position_step a v next_row.End g ∙ ap (pairs_in a) (sym f)
   pairs_ahead l v i a ih (more b w m u f g o j q y x) =
-      position_step a v (nextRow.Row b w) g
+      position_step a v (next_row.Row b w) g
       ∙ ap (λ (r : List Cadence). pair_of a b ∷ r) (ih m q w (i + k) u o j y b)
       ∙ ap (pairs_in a) (sym f)
 

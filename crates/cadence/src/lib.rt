@@ -1,4 +1,6 @@
 // Cadence: what lies between two neighbouring rows of a session.
+#![tactic(auto)]
+
 ghost use Rattle.std.specs.Prelude.{◌≡◌, ◌+◌, ◌-◌, ◌*◌, ◌/◌, ◌<◌};
 ghost use Rattle.cadence.specs.Cadence.{row_with, elapsed_of, measured_of, pair_of, cadence_of};
 ghost use Rattle.cadence.specs.Steps.{next_number_of, seconds_row, next_row_of, next_pair_of, position_at, on_first, pairs_of, nth_pair};
@@ -8,7 +10,7 @@ use profile::{NextPlaced, Session};
 use reading::Place;
 
 // Event ticks, turns, and the host's seconds, 0 where there is no third column.
-#[derive(Drop)]
+#[derive(Clone, Copy)]
 pub struct Row {
     pub ticks: u16,
     pub turns: u16,
@@ -16,7 +18,7 @@ pub struct Row {
 }
 
 // A pause; the ticks and turns that elapsed and the cadence per minute; the turns where no ticks elapsed, which gives no cadence; or the refusal.
-#[derive(Drop)]
+#[derive(Clone, Copy)]
 pub enum Cadence {
     Pause,
     Elapsed {
@@ -34,21 +36,21 @@ pub enum Cadence {
 }
 
 // The number of the next cell, and the place after it.
-#[derive(Drop)]
+#[derive(Clone, Copy)]
 pub enum NextNumber {
     Number { number: u32, next: Place },
     Absent,
 }
 
 // The next row, and the place after it.
-#[derive(Drop)]
+#[derive(Clone, Copy)]
 pub enum NextRow {
     Row { row: Row, next: Place },
     End,
 }
 
 // Between two rows: the earlier one, the place of the cells after it, how many columns.
-#[derive(Drop)]
+#[derive(Clone, Copy)]
 pub struct Position {
     pub earlier: Row,
     pub cells: Place,
@@ -56,14 +58,14 @@ pub struct Position {
 }
 
 // Where the pairs start, or the refusal's number and offset.
-#[derive(Drop)]
+#[derive(Clone, Copy)]
 pub enum Start {
     At(Position),
     Refused { number: u8, offset: usize },
 }
 
 // What lies between the rows, and the position after it; or the end.
-#[derive(Drop)]
+#[derive(Clone, Copy)]
 pub enum NextPair {
     Pair { answer: Cadence, next: Position },
     End,

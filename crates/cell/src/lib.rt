@@ -1,4 +1,6 @@
 // One cell record of a worksheet: whether it is right, and its cells.
+#![tactic(auto)]
+
 ghost use Rattle.std.specs.Prelude.{◌≡◌, ◌+◌, ◌*◌, ◌≤◌, ◌<◌, length};
 ghost use Rattle.cell.specs.Cells.{shape_of, first_at, last_at, sized, columns, multiple, count_of, no_tokens, cell_of, found_of, fields_fit, judged, judge_of};
 ghost use Rattle.cell.specs.Parts.{formula_sized, cell_with, single_of};
@@ -6,7 +8,7 @@ ghost use Rattle.cell.specs.Parts.{formula_sized, cell_with, single_of};
 use value::{CellValue, Field};
 
 // The cell records; OTHER is any other record.
-#[derive(Drop)]
+#[derive(Clone, Copy)]
 pub enum Shape {
     BLANK,
     NUMBER,
@@ -20,14 +22,14 @@ pub enum Shape {
 }
 
 // A formula's tokens, as a part of the stream; of a cell that is no formula none, at 0.
-#[derive(Drop)]
+#[derive(Clone, Copy)]
 pub struct Tokens {
     pub start: usize,
     pub length: u16,
 }
 
 // `field` is where the value field starts, of a blank its format.
-#[derive(Drop)]
+#[derive(Clone, Copy)]
 pub struct Cell {
     pub row: u16,
     pub column: u16,
@@ -39,7 +41,7 @@ pub struct Cell {
 }
 
 // A record that passes has so many cells; `Other` is no cell record.
-#[derive(Drop)]
+#[derive(Clone, Copy)]
 pub enum Judged {
     Passed(u16),
     Refused { number: u8, offset: usize },
@@ -47,7 +49,7 @@ pub enum Judged {
 }
 
 // A cell, and how many of its record come after it.
-#[derive(Drop)]
+#[derive(Clone, Copy)]
 pub enum Found {
     There { cell: Cell, left: u16 },
     Absent,

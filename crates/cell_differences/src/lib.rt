@@ -1,4 +1,6 @@
 // The differences between the cells of two sheets, in the order of their addresses, into a lent buffer.
+#![tactic(auto)]
+
 ghost use Rattle.std.specs.Prelude.{◌≡◌, [], ◌∷◌, ◌+◌, ◌*◌, ◌≤◌, ◌<◌, length};
 ghost use Rattle.reading.specs.Cells.{place_at, listed_from};
 ghost use Rattle.reading.specs.Reading.{strings_at};
@@ -12,7 +14,7 @@ use reading::Place;
 use value::CellValue;
 
 // Whose cell comes next by address: both have one at the same address, or neither has one.
-#[derive(Drop)]
+#[derive(Clone, Copy)]
 pub enum Turn {
     First,
     Second,

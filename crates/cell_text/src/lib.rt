@@ -1,4 +1,6 @@
 // Fetch the text result of a cell into a lent buffer of 16-bit units.
+#![tactic(auto)]
+
 ghost use Rattle.std.specs.Prelude.{◌≡◌, length};
 ghost use Rattle.reading.specs.Cells.{place_at, listed_from};
 ghost use Rattle.reading.specs.Reading.{start_by};
@@ -14,7 +16,7 @@ use strings::Fetched;
 use workbook::Checked;
 
 // Where a text result is fetched: after the formula whose record stands from `at` to `end`; or the refusal.
-#[derive(Drop)]
+#[derive(Clone, Copy)]
 pub enum Spot {
     Text { at: usize, end: usize },
     Refused { number: u8, offset: usize },

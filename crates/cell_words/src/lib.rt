@@ -1,4 +1,6 @@
 // Cells in words, four a cell, as many at a time as a lent slice has room for: for those who take a listing across a border.
+#![tactic(auto)]
+
 ghost use Rattle.std.specs.Prelude.{◌≡◌, ◌+◌, ◌-◌, ◌*◌, ◌≤◌, ◌<◌, length, [], ◌∷◌};
 ghost use Rattle.byte_numbers.specs.Bytes.{u16_at};
 ghost use Rattle.record.specs.Record.{header_at};
@@ -15,7 +17,7 @@ use record::Header;
 use value::Field;
 
 // How many cells were written; whether the list ended, or where it goes on.
-#[derive(Drop)]
+#[derive(Clone, Copy)]
 pub struct Filled {
     pub cells: usize,
     pub ended: bool,
@@ -24,7 +26,7 @@ pub struct Filled {
 
 // ---- what a value field says, in words: its kind and its word
 
-#[derive(Drop)]
+#[derive(Clone, Copy)]
 struct Said {
     kind: u8,
     word: u64,
@@ -153,7 +155,7 @@ fn put_one(s: &[u8], at: usize, said: Said, field: usize, sizes: u64, words: &mu
 
 // What was written of a record, from the k-th cell on: its one cell, the first; of a multiple record's `count` cells those up to the last-th; or none,
 // where it has none from there on. The one cell has its own name so that what follows on it needs no counting.
-#[derive(Drop)]
+#[derive(Clone, Copy)]
 enum Done {
     One,
     Parts { count: u16, last: u16 },
@@ -450,7 +452,7 @@ fn spot(at: usize, end: usize, count: u16, k: u16) -> Place
 }
 
 // A step of a listing: how far it came, or its end.
-#[derive(Drop)]
+#[derive(Clone, Copy)]
 enum Advance {
     On { place: Place, cells: usize },
     End,

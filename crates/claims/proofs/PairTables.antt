@@ -19,7 +19,7 @@ use Rattle.string_places.specs.Places.{places_at, filled_of, table_of, fill_of, 
 use Rattle.string_places.proofs.Claims.{given, through_filled, buffer_filled}
 use Rattle.pair.specs.declared.Of.TheVariants as of
 use Rattle.pair_texts.specs.declared.PairFilled.TheVariants.{Strings}
-use Rattle.pair_texts.specs.declared.PairFilled.TheVariants as pairFilled
+use Rattle.pair_texts.specs.declared.PairFilled.TheVariants as pair_filled
 use Rattle.pair.specs.Pair.{Passes, on_pair}
 use Rattle.pair.proofs.Laws.{passes_is}
 use Rattle.pair_texts.specs.Tables.{too_short, either_short, both_filled, first_table, second_table, pair_fill_of, template_table_after, session_table_after}
@@ -58,13 +58,13 @@ module _ (x : List ℕ) (u : ℕ) (g : Globals) (passes : checked_of x u ≡ Rig
 module _ (t s a b : List ℕ) (k m : ℕ) (g h : Globals) (both : Passes t s g h) (is : pair_fill_of t s a b ≡ Strings k m) where
   filled_both : both_filled (places_at t g.table) (places_at s h.table) a b ≡ Strings k m
   unfolding pair_fill_of
-  filled_both = sym (ap (on_pair pairFilled.Refused (λ g h. both_filled (places_at t g.table) (places_at s h.table) a b)) (passes_is t s g h both)) ∙ is
+  filled_both = sym (ap (on_pair pair_filled.Refused (λ g h. both_filled (places_at t g.table) (places_at s h.table) a b)) (passes_is t s g h both)) ∙ is
 
   long : either_short (places_at t g.table) (places_at s h.table) a b ≡ false
   unfolding both_filled pick
   long = by (either_short (places_at t g.table) (places_at s h.table) a b) filled_both
     where
-      by : (x : Bool) → pick x (pairFilled.Refused of.Question 12 0) (Strings (length (places_at t g.table)) (length (places_at s h.table))) ≡ Strings k m → x ≡ false
+      by : (x : Bool) → pick x (pair_filled.Refused of.Question 12 0) (Strings (length (places_at t g.table)) (length (places_at s h.table))) ≡ Strings k m → x ≡ false
       by true e = never cc
       by false e = refl
 

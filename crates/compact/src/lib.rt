@@ -1,4 +1,6 @@
 // A stream without its unused strings, into a lent buffer.
+#![tactic(auto)]
+
 ghost use Rattle.std.specs.Prelude.{◌≡◌, ◌+◌, ◌≤◌, ◌<◌, length};
 ghost use Rattle.byte_numbers.specs.Bytes.{u16_at};
 ghost use Rattle.new_places.specs.Parts.{fated};
@@ -15,14 +17,14 @@ use segments::Cursor;
 use workbook::Checked;
 
 // The new stream's length, or a refusal's number and offset.
-#[derive(Drop)]
+#[derive(Clone, Copy)]
 pub enum Compacted {
     Written { length: usize },
     Refused { number: u8, offset: usize },
 }
 
 // The new table: where the old one's SST has its header, where its body ends and how many strings there are; the two counts of the new one, and its bytes.
-#[derive(Drop)]
+#[derive(Clone, Copy)]
 pub struct Plan {
     pub head: usize,
     pub end: usize,

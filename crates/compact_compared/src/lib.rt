@@ -1,1 +1,2 @@
 // A stream compared with itself without its unused strings. No code.
+#![tactic(auto)]

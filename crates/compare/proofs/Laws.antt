@@ -28,7 +28,7 @@ use Rattle.reading.specs.Cells.{place_at, cell_item, on_header, listed_from}
 use Rattle.reading.specs.Reading.{SheetReading, name_at, start_by, listed_of, on_globals, cell_reading, sheet_reading, strings_at, reading_of}
 use Rattle.reading.proofs.Laws.{listed_step}
 use Rattle.listing.specs.declared.NextSheet.{NextSheet}
-use Rattle.listing.specs.declared.NextSheet.TheVariants as nextSheet
+use Rattle.listing.specs.declared.NextSheet.TheVariants as next_sheet
 use Rattle.listing.specs.Listing.{next_sheet_of}
 use Rattle.listing.proofs.SheetWalk.{FirstSheet, SheetsFrom, sheets_next}
 use Rattle.differences.specs.Differences.{held_at, same, chars_of, Difference, none, name, between, cells_in, cell_difference, names_between, name_difference, sheet_keys, addresses, words_of, words_from, twice_in, differences}
@@ -62,7 +62,7 @@ start_plain len p k = pick_any (λ (v : Place). v ≡ record { at = v.at; part =
 
 -- ---- the sheet found
 module _ (s : List ℕ) (a : ℕ) {r : NextSheet} (is : r ≡ next_sheet_of s a) where
-  pub seen_sheet : (h t w : ℕ) (v : Place) (n : ℕ) → r ≡ nextSheet.Sheet h t w v n → Seen s a (record { there = true; header = h; width = w; start = v.at; next = n })
+  pub seen_sheet : (h t w : ℕ) (v : Place) (n : ℕ) → r ≡ next_sheet.Sheet h t w v n → Seen s a (record { there = true; header = h; width = w; start = v.at; next = n })
   seen_sheet h t w v n e =
       let f : FirstSheet s a h t w v n = subst (SheetsFrom s a) (sym is ∙ e) (sheets_next s a) in
       let wide = f.width in
@@ -76,7 +76,7 @@ module _ (s : List ℕ) (a : ℕ) {r : NextSheet} (is : r ≡ next_sheet_of s a)
         nearer = λ _. near;
       }
 
-  pub seen_end : r ≡ nextSheet.End → Seen s a (record { there = false; header = 0; width = 1; start = length s; next = length s })
+  pub seen_end : r ≡ next_sheet.End → Seen s a (record { there = false; header = 0; width = 1; start = length s; next = length s })
   seen_end e =
       let f : sheets_from s a ≡ [] = subst (SheetsFrom s a) (sym is ∙ e) (sheets_next s a) in
       record {

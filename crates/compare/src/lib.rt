@@ -1,4 +1,6 @@
 // Two revisions compared: the words of their differences, as many as a lent buffer takes, from a key on.
+#![tactic(auto)]
+
 ghost use Rattle.std.specs.Prelude.{◌≡◌, true, ◌||◌, ◌+◌, ◌*◌, ◌≤◌, ◌<◌, length};
 ghost use Rattle.reading.specs.Reading.{reading_of};
 ghost use Rattle.reading.specs.Cells.{place_at, listed_from};
@@ -16,14 +18,14 @@ use listing::NextSheet;
 use workbook::Checked;
 
 // The stream that a refusal is of.
-#[derive(Drop)]
+#[derive(Clone, Copy)]
 pub enum Side {
     First,
     Second,
 }
 
 // How many words were written, and whether there are more; or whose refusal, its number and its offset.
-#[derive(Drop)]
+#[derive(Clone, Copy)]
 pub enum Compared {
     Listed {
         words: usize,
@@ -37,7 +39,7 @@ pub enum Compared {
 }
 
 // The next sheet of a stream, if there is one: its BOUNDSHEET, the bytes of a character of its name, where its cells start, and the place after it.
-#[derive(Drop)]
+#[derive(Clone, Copy)]
 pub struct SheetFound {
     there: bool,
     header: usize,

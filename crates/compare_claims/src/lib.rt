@@ -1,1 +1,2 @@
 // What holds of every comparison of two revisions. No code.
+#![tactic(auto)]

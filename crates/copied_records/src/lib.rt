@@ -1,4 +1,6 @@
 // What stays of a stream, copied to its new places in a lent buffer. Nothing is written where the new table is to stand.
+#![tactic(auto)]
+
 ghost use Rattle.std.specs.Prelude.{◌≡◌, ◌+◌, ◌≤◌, length};
 ghost use Rattle.new_places.specs.Parts.{fated};
 ghost use Rattle.new_stream.specs.Entries.{entries_of};

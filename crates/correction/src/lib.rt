@@ -1,4 +1,6 @@
 // Correct one cell of a sheet in place.
+#![tactic(auto)]
+
 ghost use Rattle.std.specs.Prelude.{◌≡◌, ◌+◌, ◌*◌, ◌≤◌, length};
 ghost use Rattle.cell.specs.Cells.{shape_of, field_of, part_of, start_of};
 ghost use Rattle.new_value.specs.Change.{Held};
@@ -13,7 +15,7 @@ use value::Field;
 use workbook::Checked;
 
 // The cells of an address: none, one with its value field, or more.
-#[derive(Drop)]
+#[derive(Clone, Copy)]
 pub enum Target {
     None,
     One { kind: Field, field: usize },
@@ -21,7 +23,7 @@ pub enum Target {
 }
 
 // What a correction is aimed at: the value field of the one cell, and the unique count of strings.
-#[derive(Drop)]
+#[derive(Clone, Copy)]
 pub enum Aim {
     At {
         kind: Field,

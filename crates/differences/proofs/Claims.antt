@@ -107,6 +107,10 @@ kind_name j k name (inl e) = (omega arith, refl)
 kind_name j k only_first (inl e) = absurd (omega arith)
 kind_name j k only_second (inl e) = absurd (omega arith)
 kind_name j k unequal (inl e) = absurd (omega arith)
+kind_name j k name (inr x') = elim x' [ ]
+kind_name j k only_first (inr x'') = elim x'' [ ]
+kind_name j k only_second (inr x3) = elim x3 [ ]
+kind_name j k unequal (inr x4) = elim x4 [ ]
 
 kind_first : (j k : ℕ) (d : Difference) → Among (j * 4 + 1) (words_of k d) → (k ≡ j) × (d ≡ only_first)
 kind_first j k none h = absurd h
@@ -114,6 +118,10 @@ kind_first j k name (inl e) = absurd (omega arith)
 kind_first j k only_first (inl e) = (omega arith, refl)
 kind_first j k only_second (inl e) = absurd (omega arith)
 kind_first j k unequal (inl e) = absurd (omega arith)
+kind_first j k name (inr x') = elim x' [ ]
+kind_first j k only_first (inr x'') = elim x'' [ ]
+kind_first j k only_second (inr x3) = elim x3 [ ]
+kind_first j k unequal (inr x4) = elim x4 [ ]
 
 kind_second : (j k : ℕ) (d : Difference) → Among (j * 4 + 2) (words_of k d) → (k ≡ j) × (d ≡ only_second)
 kind_second j k none h = absurd h
@@ -121,6 +129,10 @@ kind_second j k name (inl e) = absurd (omega arith)
 kind_second j k only_first (inl e) = absurd (omega arith)
 kind_second j k only_second (inl e) = (omega arith, refl)
 kind_second j k unequal (inl e) = absurd (omega arith)
+kind_second j k name (inr x') = elim x' [ ]
+kind_second j k only_first (inr x'') = elim x'' [ ]
+kind_second j k only_second (inr x3) = elim x3 [ ]
+kind_second j k unequal (inr x4) = elim x4 [ ]
 
 kind_unequal : (j k : ℕ) (d : Difference) → Among (j * 4 + 3) (words_of k d) → (k ≡ j) × (d ≡ unequal)
 kind_unequal j k none h = absurd h
@@ -128,6 +140,10 @@ kind_unequal j k name (inl e) = absurd (omega arith)
 kind_unequal j k only_first (inl e) = absurd (omega arith)
 kind_unequal j k only_second (inl e) = absurd (omega arith)
 kind_unequal j k unequal (inl e) = (omega arith, refl)
+kind_unequal j k name (inr x') = elim x' [ ]
+kind_unequal j k only_first (inr x'') = elim x'' [ ]
+kind_unequal j k only_second (inr x3) = elim x3 [ ]
+kind_unequal j k unequal (inr x4) = elim x4 [ ]
 
 -- a difference that only w tells is listed exactly when it is there
 exactly : (x y : Reading) (k w : ℕ) (d : Difference) → Among w (words_of k d) → ((j : ℕ) (e : Difference) → Among w (words_of j e) → (j ≡ k) × (e ≡ d)) → Exactly (difference_at x y k ≡ d) (Among w (differences x y 0))

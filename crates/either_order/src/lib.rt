@@ -1,1 +1,2 @@
 // Two corrections of one stream: theorems, no code.
+#![tactic(auto)]

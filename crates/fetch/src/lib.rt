@@ -1,4 +1,6 @@
 // Fetch a shared string into a lent buffer of 16-bit units; or all of them, one after the other, after one check.
+#![tactic(auto)]
+
 ghost use Rattle.std.specs.Prelude.{◌≡◌, ◌+◌, ◌≤◌, length};
 ghost use Rattle.steps.specs.Items.{nth};
 ghost use Rattle.byte_numbers.specs.Bytes.{u16_at};
@@ -14,7 +16,7 @@ use strings::Fetched;
 use workbook::Checked;
 
 // The next string: how many units were written, and the place after it; 12 at 0 where the buffer has fewer units than the string; or no further string.
-#[derive(Drop)]
+#[derive(Clone, Copy)]
 pub enum NextString {
     Units { units: usize, next: Cursor },
     Refused { number: u8, offset: usize },

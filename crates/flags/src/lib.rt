@@ -1,4 +1,6 @@
 // Flags in words of 64: which are set, and how many of them stand before one.
+#![tactic(auto)]
+
 ghost use Rattle.std.specs.Prelude.{◌≡◌, ◌+◌, ◌*◌, ◌/◌, ◌%◌, ◌^◌, ◌≤◌, ◌<◌, length};
 ghost use Rattle.std.specs.Int.Count.{ones};
 ghost use Rattle.flags.specs.Flags.{flag_at, set_below};

@@ -1,4 +1,6 @@
 // Judging a formula whole: its tokens, the data after them, and its jumps.
+#![tactic(auto)]
+
 ghost use Rattle.std.specs.Prelude.{◌≡◌, ◌+◌, ◌^◌, ◌≤◌, ◌<◌, length};
 ghost use Rattle.tokens.specs.Tokens.{token_of};
 ghost use Rattle.jumps.specs.Jumps.{size_of};
@@ -9,7 +11,7 @@ use tokens::{Judgement, Token};
 use trailing::Data;
 
 // What was seen of the tokens so far.
-#[derive(Drop)]
+#[derive(Clone, Copy)]
 enum Seen {
     // so many trailing bytes are used, and all jumps land
     Used(usize),
@@ -20,7 +22,7 @@ enum Seen {
 }
 
 // What a token leads to: its bytes and what was seen with it; or there is none.
-#[derive(Drop)]
+#[derive(Clone, Copy)]
 enum Visit {
     Next(usize, Seen),
     End(Seen),

@@ -91,9 +91,9 @@ unfolding entries_from full
 entries_past zero index h = refl
 entries_past (suc n) index h = rw (← counts_past index h, entries_past n (suc index) (omega arith))
 
-pub group_past : (group : ℕ) → NoneOf 46 group → 0xFFFFFFFFFFFFFFFF ≡ entries_from 8 (8 * group)
+pub group_past : (group : ℕ) → 46 ≤ group → 0xFFFFFFFFFFFFFFFF ≡ entries_from 8 (8 * group)
 unfolding full
-group_past group h = let p = past 46 group h in entries_past 8 (8 * group) (omega (arith, p))
+group_past group h = entries_past 8 (8 * group) (omega arith)
 
 -- ---- an entry of a word
 later_entry : (k e y : ℕ) → e < 256 → (e + 256 * y) / 2 ^ (8 + k) ≡ y / 2 ^ k

@@ -1,10 +1,12 @@
 // How many arguments a function takes, by its index.
+#![tactic(auto)]
+
 ghost use Rattle.std.specs.Prelude.{◌≡◌, ◌*◌, ◌<◌};
 ghost use Rattle.function_counts.specs.Counts.{counts_of};
 ghost use Rattle.function_counts.specs.Parts.{entry_of, entries_from};
 
 // The counts of a function's arguments; Missing where no function has the index.
-#[derive(Drop)]
+#[derive(Clone, Copy)]
 pub enum Counts {
     Missing,
     Range { least: u8, greatest: u8 },

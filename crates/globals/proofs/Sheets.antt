@@ -12,7 +12,6 @@ use Rattle.record.specs.declared.Header.{Header}
 use Rattle.record.specs.declared.Header.TheVariants.{Record, Cut, End}
 use Rattle.record.specs.Record.{header_at}
 use Rattle.record.proofs.Laws.{Whole, whole}
-use Rattle.sheet_agreement.specs.Agreement.{Sheet}
 use Rattle.globals.specs.declared.Bound.{Bound}
 use Rattle.globals.specs.declared.Bound.TheVariants as bound
 use Rattle.globals.specs.Sheets.{sheet_at, on_bound, bound_at, sheet_item, sheets_from}

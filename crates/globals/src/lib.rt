@@ -1,4 +1,6 @@
 // The globals: the first substream, with the sheet list and the string table. Called by the check of the stream, which has judged its length.
+#![tactic(auto)]
+
 ghost use Rattle.std.specs.Prelude.{◌≡◌, ◌+◌, ◌*◌, ◌≤◌, length};
 ghost use Rattle.globals.specs.Globals.{past, past_table, sheet_fits, boundsheet_fits, boundsheet_record, sst_record, bof_record, eof_record, continue_record, record_in, step_of, records_from, is_globals_bof, globals_of};
 ghost use Rattle.segments.specs.Segments.{width_of};
@@ -9,7 +11,7 @@ use strings::Strings;
 
 // Where the next record stands, whether a CONTINUE there would have no parent, where the SST stands (0 where none has come: the BOF stands
 // there), and how many unique strings there are.
-#[derive(Drop)]
+#[derive(Clone, Copy)]
 pub struct Globals {
     pub at: usize,
     pub orphan: bool,
@@ -18,7 +20,7 @@ pub struct Globals {
 }
 
 // What the record leads to: on to the next, the end of the globals, or a refusal.
-#[derive(Drop)]
+#[derive(Clone, Copy)]
 pub enum Step {
     More(Globals),
     Close(Globals),
@@ -26,14 +28,14 @@ pub enum Step {
 }
 
 // How the walk of the globals ends: after its EOF, or with a refusal.
-#[derive(Drop)]
+#[derive(Clone, Copy)]
 pub enum Ended {
     At(Globals),
     Refused { number: u8, offset: usize },
 }
 
 // What a record of the globals is to the sheet list: a BOUNDSHEET, another, or no more of them.
-#[derive(Drop)]
+#[derive(Clone, Copy)]
 pub enum Bound {
     Sheet {
         header: usize,

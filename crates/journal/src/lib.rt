@@ -1,4 +1,6 @@
 // A journal of granted corrections: its form, and what is written to it; start one; correct a cell and write the entry.
+#![tactic(auto)]
+
 ghost use Rattle.std.specs.Prelude.{◌≡◌, ◌+◌, ◌*◌, ◌≤◌, length};
 ghost use Rattle.byte_numbers.specs.Bytes.{num_at, bytes_of};
 ghost use Rattle.value.specs.Value.{width_of};

@@ -1,11 +1,13 @@
 // The answers about journals in plain numbers, as C has them.
+#![tactic(auto)]
+
 ghost use Rattle.std.specs.Prelude.{◌≡◌, length};
-ghost use Rattle.correction.specs.Correction.{answer_of as correctedOf, stream_after};
+ghost use Rattle.correction.specs.Correction.{answer_of as corrected_of, stream_after};
 ghost use Rattle.journal.specs.Entries.{count_in};
 ghost use Rattle.journal.specs.Journal.{start_of, start_answer, started_journal, journalled_of, journal_after};
 ghost use Rattle.replay_entry.specs.Replay.{replay_of, stream_replayed, answer_replayed};
 ghost use Rattle.pair.specs.Pair.{answer_of, session_after};
-ghost use Rattle.pair_journal.specs.Journals.{pair_start_of, start_answer as pairStartAnswer, journal_started, pair_journalled_of, pair_journal_after, pair_replay_of, session_replayed, pair_replay_answer};
+ghost use Rattle.pair_journal.specs.Journals.{pair_start_of, start_answer as pair_start_answer, journal_started, pair_journalled_of, pair_journal_after, pair_replay_of, session_replayed, pair_replay_answer};
 ghost use Rattle.pair_answers.specs.Answers.{answer_seen as pair_seen};
 ghost use Rattle.journal_answers.specs.Answers.{answer_seen, replay_seen, pair_replay_seen};
 
@@ -15,7 +17,7 @@ use pair_journal::PairReplayed;
 use replay_entry::Replayed;
 
 #[repr(C)]
-#[derive(Drop)]
+#[derive(Clone, Copy)]
 pub struct Answer {
     pub number: u8,
     pub offset: usize,
@@ -23,7 +25,7 @@ pub struct Answer {
 
 // How many entries were replayed, or the number of the entry that stopped it.
 #[repr(C)]
-#[derive(Drop)]
+#[derive(Clone, Copy)]
 pub struct Outcome {
     pub number: u8,
     pub offset: usize,
@@ -32,7 +34,7 @@ pub struct Outcome {
 }
 
 #[repr(C)]
-#[derive(Drop)]
+#[derive(Clone, Copy)]
 pub struct PairOutcome {
     pub whose: u8,
     pub number: u8,
@@ -94,7 +96,7 @@ pub fn correct(
     column: u32,
     value: NewValue,
 ) -> Answer
-    ensures value { result ≡ answer_seen (correctedOf (journalled_of s.old 0 0 j.old sheet row column value)) }
+    ensures value { result ≡ answer_seen (corrected_of (journalled_of s.old 0 0 j.old sheet row column value)) }
     ensures s_after { s.new ≡ stream_after s.old (journalled_of s.old 0 0 j.old sheet row column value) }
     ensures j_after { j.new ≡ journal_after s.old j.old sheet row column value (journalled_of s.old 0 0 j.old sheet row column value) }
 {
@@ -155,7 +157,7 @@ fn pair_replay_seen(answer: PairReplayed) -> PairOutcome
 }
 
 pub fn pair_start(template: &[u8], session: &[u8], j: &mut [u8]) -> pair_answers::Answer
-    ensures value { result ≡ pair_seen (pairStartAnswer (pair_start_of template.now session.now (length j.old))) }
+    ensures value { result ≡ pair_seen (pair_start_answer (pair_start_of template.now session.now (length j.old))) }
     ensures j_after { j.new ≡ journal_started session.now j.old (pair_start_of template.now session.now (length j.old)) }
 {
     pair_seen(pair_journal::pair_start(template, session, j))

@@ -25,7 +25,7 @@ use Rattle.cell.specs.declared.Found.{Found}
 use Rattle.cell.specs.declared.Found.TheVariants.{There, Absent}
 use Rattle.cell.specs.declared.Judged.{Judged}
 use Rattle.cell.specs.declared.Judged.TheVariants as judged
-use Rattle.cell.specs.Cells.{shape_of, field_of, part_of, row_at, first_at, count_of, field_at, cell_from, cell_of, found_of, fields_fit, judged, judge_of}
+use Rattle.cell.specs.Cells.{shape_of, field_of, part_of, row_at, first_at, count_of, field_at, cell_from, cell_of, found_of, fields_fit, judge_of}
 use Rattle.cell.proofs.Sizes.{sized_below}
 use Rattle.record_after.specs.Claims.{Right}
 use Rattle.record_after.proofs.Records as records

@@ -1,1 +1,2 @@
 // Theorems on a journal and its replay. No code.
+#![tactic(auto)]

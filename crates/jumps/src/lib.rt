@@ -1,4 +1,6 @@
 // Jumps in formulas must land: on a token start of their level, or on its end.
+#![tactic(auto)]
+
 ghost use Rattle.std.specs.Prelude.{◌≡◌, ◌+◌, ◌*◌, ◌^◌, ◌≤◌, ◌<◌, length};
 ghost use Rattle.byte_numbers.specs.Bytes.{byte_at};
 ghost use Rattle.tokens.specs.Tokens.{token_of};

@@ -1,4 +1,6 @@
 // How many strings at the start of two tables are the same in both: most of them, where one stream is a revision of the other.
+#![tactic(auto)]
+
 ghost use Rattle.std.specs.Prelude.{◌≡◌, [], false, ◌+◌, ◌<◌, get_or};
 ghost use Rattle.reading.specs.Reading.{strings_at};
 ghost use Rattle.text_equality.specs.Characters.{ReadAs};

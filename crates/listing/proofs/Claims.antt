@@ -26,7 +26,7 @@ use Rattle.reading.specs.Cells.{other_item, on_found, record_item, on_header, ce
 use Rattle.reading.specs.Reading.{SheetReading, name_at, listed_of, rows_of, cell_reading, sheet_reading, reading_of}
 use Rattle.reading.proofs.Laws.{found_there}
 use Rattle.listing.specs.declared.NextSheet.{NextSheet}
-use Rattle.listing.specs.declared.NextSheet.TheVariants as nextSheet
+use Rattle.listing.specs.declared.NextSheet.TheVariants as next_sheet
 use Rattle.listing.specs.declared.Listed.{Listed}
 use Rattle.listing.specs.declared.Listed.TheVariants as listed
 use Rattle.listing.specs.Listing.{first_sheet, next_sheet_of, on_item, next_of, tokens_in}
@@ -142,12 +142,12 @@ cells_are_listed s n v h = subst (CellsGiven s v) (cells_read s (sheets_of s) n)
 -- ---- the sheets
 module _ (s : List ℕ) where
   abbrev Given : ℕ → List Sheet → Type 0
-  Given p l = Lists (SheetGiven s) (λ (p : ℕ). next_sheet_of s p ≡ nextSheet.End) p (map (sheet_reading s) l)
+  Given p l = Lists (SheetGiven s) (λ (p : ℕ). next_sheet_of s p ≡ next_sheet.End) p (map (sheet_reading s) l)
 
   sheets_by : (l : List Sheet) (p : ℕ) (r : NextSheet) → next_sheet_of s p ≡ r → SheetsFrom s p r → sheets_from s p ≡ l → Given p l
-  sheets_by [] p (nextSheet.Sheet h t w v n) i f e = let j = f.list in never (cc)
-  sheets_by [] p nextSheet.End i f e = at_end_lem i
-  sheets_by (x ∷ l) p (nextSheet.Sheet h t w v n) i f e =
+  sheets_by [] p (next_sheet.Sheet h t w v n) i f e = let j = f.list in never (cc)
+  sheets_by [] p next_sheet.End i f e = at_end_lem i
+  sheets_by (x ∷ l) p (next_sheet.Sheet h t w v n) i f e =
       let list = f.list in
       let j : f.sheet ≡ x = cc in
       let k : sheets_from s n ≡ l = cc in
@@ -156,13 +156,13 @@ module _ (s : List ℕ) where
       let given : SheetGiven s p (sheet_reading s f.sheet) n = record {
         header = h;
         cells = v;
-        next = i ∙ (λ y. nextSheet.Sheet h (sym type y) (sym width y) v n);
+        next = i ∙ (λ y. next_sheet.Sheet h (sym type y) (sym width y) v n);
         name = ap (name_at s) (sym f.header);
         rows = ap (λ (u : Place). rows_of (listed_from s u)) (sym f.start);
         listed = cells_from_lem s v (listed_of s f.sheet) (ap (listed_from s) (sym f.start));
       } in
       and_then (subst (λ (y : Sheet). SheetGiven s p (sheet_reading s y) n) j given) (sheets_by l n (next_sheet_of s n) refl (sheets_next s n) k)
-  sheets_by (x ∷ l) p nextSheet.End i f e = never (cc)
+  sheets_by (x ∷ l) p next_sheet.End i f e = never (cc)
 
 pub sheets_are_listed : SheetsListed
 unfolding reading_of

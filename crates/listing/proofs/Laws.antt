@@ -14,12 +14,12 @@ use Rattle.steps.specs.Items.{Item, gives, skips, ends, onto, nth}
 use Rattle.steps.proofs.Items.{Nearer, nth_none, nth_here, nth_next}
 use Rattle.byte_numbers.specs.Bytes.{u16_at}
 use Rattle.record.specs.declared.Header.{Header}
-use Rattle.record.specs.declared.Header.TheVariants.{Record, End}
+use Rattle.record.specs.declared.Header.TheVariants.{Record}
 use Rattle.record.specs.Record.{header_at}
 use Rattle.record.proofs.Laws.{Whole, whole}
 use Rattle.cell.specs.declared.Cell.{Cell}
 use Rattle.cell.specs.declared.Found.{Found}
-use Rattle.cell.specs.declared.Found.TheVariants.{There, Absent}
+use Rattle.cell.specs.declared.Found.TheVariants.{There}
 use Rattle.cell.specs.Cells.{shape_of, field_of, count_of, cell_of, found_of, tokens_of}
 use Rattle.sheet_agreement.specs.Agreement.{Sheet}
 use Rattle.globals.specs.declared.Bound.{Bound}

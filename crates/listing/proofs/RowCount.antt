@@ -24,7 +24,7 @@ use Rattle.reading.specs.Reading.{rows_of}
 use Rattle.reading.proofs.Laws.{found_absent, cell_here, item_near, listed_step}
 use Rattle.listing.specs.declared.Step.{Step}
 use Rattle.listing.specs.declared.RowStep.{RowStep}
-use Rattle.listing.specs.declared.RowStep.TheVariants as rowStep
+use Rattle.listing.specs.declared.RowStep.TheVariants as row_step
 use Rattle.listing.specs.Parts.{item_of, over_other, RowsBy}
 use Rattle.listing.proofs.Laws.{inside, by_found}
 
@@ -127,15 +127,15 @@ abbrev pub Counted : List ℕ → Place → ℕ → Place → Type 0
 Counted s v₀ most v = rows_of (listed_from s v₀) ≡ max most (rows_of (listed_from s v))
 
 module _ (s : List ℕ) (v₀ v : Place) (most : ℕ) (inv : Counted s v₀ most v) (r : RowStep) (by : RowsBy s v r) where
-  pub rows_most : r ≡ rowStep.Ends → most ≡ rows_of (listed_from s v₀)
+  pub rows_most : r ≡ row_step.Ends → most ≡ rows_of (listed_from s v₀)
   rows_most h = let e : rows_of (listed_from s v) ≡ 0 = subst (RowsBy s v) h by in omega arith
 
-  module _ (k : ℕ) (w : Place) (h : r ≡ rowStep.Rows k w) where
+  module _ (k : ℕ) (w : Place) (h : r ≡ row_step.Rows k w) where
     pub rows_again : (m : ℕ) → m ≡ max most k → Counted s v₀ m w
-    rows_again m e = let f : RowsBy s v (rowStep.Rows k w) = subst (RowsBy s v) h by in let g = f.0 in omega arith
+    rows_again m e = let f : RowsBy s v (row_step.Rows k w) = subst (RowsBy s v) h by in let g = f.0 in omega arith
 
-pub rows_less : (s : List ℕ) (v : Place) (r : RowStep) → RowsBy s v r → (k : ℕ) (w : Place) → r ≡ rowStep.Rows k w → remaining s w < remaining s v
-rows_less s v r by k w h = let f : RowsBy s v (rowStep.Rows k w) = subst (RowsBy s v) h by in f.1
+pub rows_less : (s : List ℕ) (v : Place) (r : RowStep) → RowsBy s v r → (k : ℕ) (w : Place) → r ≡ row_step.Rows k w → remaining s w < remaining s v
+rows_less s v r by k w h = let f : RowsBy s v (row_step.Rows k w) = subst (RowsBy s v) h by in f.1
 
 pub rows_start : (s : List ℕ) (v : Place) → Counted s v 0 v
 rows_start s v = omega arith

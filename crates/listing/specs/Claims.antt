@@ -5,7 +5,7 @@ use Rattle.cell.specs.declared.Cell.{Cell}
 use Rattle.reading.specs.declared.Place.{Place}
 use Rattle.reading.specs.Cells.{listed_from}
 use Rattle.reading.specs.Reading.{CellReading, SheetReading, reading_of, name_at, rows_of, units_of, trailing_bytes}
-use Rattle.listing.specs.declared.NextSheet.TheVariants as nextSheet
+use Rattle.listing.specs.declared.NextSheet.TheVariants as next_sheet
 use Rattle.listing.specs.declared.Start.TheVariants as start
 use Rattle.listing.specs.declared.Listed.TheVariants as listed
 use Rattle.listing.specs.Listing.{first_sheet, next_sheet_of, cells_of, next_of, tokens_in}
@@ -38,11 +38,11 @@ CellsListed = (s : List ℕ) (n : ℕ) (v : Place) → cells_of s n ≡ start.At
 pub record SheetGiven (s : List ℕ) (p : ℕ) (x : SheetReading) (q : ℕ) : Type 0 where
   pub header : ℕ
   pub cells : Place
-  pub next : next_sheet_of s p ≡ nextSheet.Sheet header x.type x.width cells q
+  pub next : next_sheet_of s p ≡ next_sheet.Sheet header x.type x.width cells q
   pub name : name_at s header ≡ x.name
   pub rows : rows_of (listed_from s cells) ≡ x.rows
   pub listed : CellsGiven s cells x.cells
 
 -- from `first_sheet` on, exactly the sheets of the reading, in order, and then the end; u is the unique count of strings where the stream has no SST
 abbrev pub SheetsListed : Type 0
-SheetsListed = (s : List ℕ) (u : ℕ) → Lists (SheetGiven s) (λ p. next_sheet_of s p ≡ nextSheet.End) first_sheet (reading_of s u).sheets
+SheetsListed = (s : List ℕ) (u : ℕ) → Lists (SheetGiven s) (λ p. next_sheet_of s p ≡ next_sheet.End) first_sheet (reading_of s u).sheets

@@ -16,7 +16,7 @@ use Rattle.reading.specs.Reading.{name_at, width_at, type_at, start_by, start_of
 use Rattle.listing.specs.declared.Description.{Description}
 use Rattle.listing.specs.declared.Description.TheVariants as description
 use Rattle.listing.specs.declared.NextSheet.{NextSheet}
-use Rattle.listing.specs.declared.NextSheet.TheVariants as nextSheet
+use Rattle.listing.specs.declared.NextSheet.TheVariants as next_sheet
 use Rattle.listing.specs.declared.Start.{Start}
 use Rattle.listing.specs.declared.Start.TheVariants as start
 use Rattle.listing.specs.declared.Listed.{Listed}
@@ -39,12 +39,12 @@ first_sheet = 20
 
 -- the next sheet from a place of the globals on, where its cells start, and the place after it
 abbrev pub on_bound : List ℕ → Bound → Next ℕ NextSheet
-on_bound s (bound.Sheet h p k n) = stop (nextSheet.Sheet h (type_at s h) (width_at s h) (start_by (length s) p k) n)
+on_bound s (bound.Sheet h p k n) = stop (next_sheet.Sheet h (type_at s h) (width_at s h) (start_by (length s) p k) n)
 on_bound s (bound.Other n) = more n
-on_bound s bound.Done = stop nextSheet.End
+on_bound s bound.Done = stop next_sheet.End
 
 unfoldable pub next_sheet_of : List ℕ → ℕ → NextSheet
-next_sheet_of s p = run (λ p. on_bound s (bound_at s p)) nextSheet.End (λ p. length s - p) p
+next_sheet_of s p = run (λ p. on_bound s (bound_at s p)) next_sheet.End (λ p. length s - p) p
 
 -- ---- a sheet's cells
 unfoldable pub cells_of : List ℕ → ℕ → Start

@@ -9,7 +9,7 @@ use Rattle.reading.specs.Reading.{rows_of}
 use Rattle.listing.specs.declared.Step.{Step}
 use Rattle.listing.specs.declared.Step.TheVariants as step
 use Rattle.listing.specs.declared.RowStep.{RowStep}
-use Rattle.listing.specs.declared.RowStep.TheVariants as rowStep
+use Rattle.listing.specs.declared.RowStep.TheVariants as row_step
 use Rattle.listing.specs.declared.Sought.{Sought}
 use Rattle.listing.specs.declared.Sought.TheVariants as sought
 
@@ -29,11 +29,11 @@ SoughtWithin len sought.Absent = Unit {0}
 
 -- over a record that has no cell here, and so gives none: no row
 abbrev pub over_other : Item Place Cell → RowStep
-over_other (gives c t) = rowStep.Ends
-over_other (skips t) = rowStep.Rows 0 t
-over_other ends = rowStep.Ends
+over_other (gives c t) = row_step.Ends
+over_other (skips t) = row_step.Rows 0 t
+over_other ends = row_step.Ends
 
 -- a step over a whole record: the rows from here on are those of the record, k, or those after it
 abbrev pub RowsBy : List ℕ → Place → RowStep → Type 0
-RowsBy s v (rowStep.Rows k w) = (rows_of (listed_from s v) ≡ max k (rows_of (listed_from s w))) × (remaining s w < remaining s v)
-RowsBy s v rowStep.Ends = rows_of (listed_from s v) ≡ 0
+RowsBy s v (row_step.Rows k w) = (rows_of (listed_from s v) ≡ max k (rows_of (listed_from s w))) × (remaining s w < remaining s v)
+RowsBy s v row_step.Ends = rows_of (listed_from s v) ≡ 0

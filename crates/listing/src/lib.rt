@@ -1,4 +1,6 @@
 // The sheets of a stream, and the cells of a sheet one after the other. The check is made once, when a listing starts.
+#![tactic(auto)]
+
 ghost use Rattle.std.specs.Prelude.{◌≡◌, ◌+◌, ◌≤◌, max, length, take, drop};
 ghost use Rattle.steps.specs.Items.{nth};
 ghost use Rattle.record.specs.Record.{header_at};
@@ -15,7 +17,7 @@ use record::Header;
 use workbook::Checked;
 
 // A sheet: its type (0 worksheet, 1 macro, 2 chart), the bytes of a character of its name (1 or 2), its row count, up to 65,536.
-#[derive(Drop)]
+#[derive(Clone, Copy)]
 pub enum Description {
     Sheet {
         type_byte: u8,
@@ -29,7 +31,7 @@ pub enum Description {
 }
 
 // The next sheet: its BOUNDSHEET, the type and the width that it gives, where the sheet's cells start, and the place after it; or the end of the list.
-#[derive(Drop)]
+#[derive(Clone, Copy)]
 pub enum NextSheet {
     Sheet {
         header: usize,
@@ -42,21 +44,21 @@ pub enum NextSheet {
 }
 
 // Where a listing starts, or the refusal's number and offset.
-#[derive(Drop)]
+#[derive(Clone, Copy)]
 pub enum Start {
     At(Place),
     Refused { number: u8, offset: usize },
 }
 
 // The next cell and the place after it, or the end of the sheet.
-#[derive(Drop)]
+#[derive(Clone, Copy)]
 pub enum Listed {
     Cell { cell: Cell, next: Place },
     End,
 }
 
 // One step of a listing.
-#[derive(Drop)]
+#[derive(Clone, Copy)]
 pub enum Step {
     Gives { cell: Cell, next: Place },
     Skips(Place),
@@ -64,14 +66,14 @@ pub enum Step {
 }
 
 // One record of a count of rows: the highest row plus one that it has, 0 where it has no cell.
-#[derive(Drop)]
+#[derive(Clone, Copy)]
 pub enum RowStep {
     Rows { rows: u32, next: Place },
     Ends,
 }
 
 // A BOUNDSHEET: where its record stands, the BOF it names, and the kind it says.
-#[derive(Drop)]
+#[derive(Clone, Copy)]
 pub enum Sought {
     Sheet {
         header: usize,

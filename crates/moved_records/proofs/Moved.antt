@@ -20,7 +20,7 @@ use Rattle.value.specs.Value.{index_fits}
 use Rattle.cell.specs.declared.Shape.{Shape}
 use Rattle.cell.specs.declared.Shape.TheVariants.{LABELSST}
 use Rattle.cell.specs.declared.Judged.TheVariants as judged
-use Rattle.cell.specs.Cells.{shape_of, field_of, first_at, field_at, fields_fit, judged as judgedAt, judge_of, sized, count_of}
+use Rattle.cell.specs.Cells.{shape_of, field_of, first_at, field_at, fields_fit, judged as judged_at, judge_of, sized, count_of}
 use Rattle.record_after.specs.Claims.{Right}
 use Rattle.record_after.proofs.Records.{right, passes}
 use Rattle.substream.specs.declared.Here.{Here}
@@ -70,7 +70,7 @@ blind ty d =
     (λ _. pick_by Blind _ (λ _ n u u'. refl) (λ _. pick_by Blind _ (λ _ n u u'. refl) (λ _ n u u'. refl))))))))
 
 judge_blind : (s : List ℕ) (h : Shape) (at z u u' : ℕ) → Blind h → judge_of s h at z u ≡ judge_of s h at z u'
-unfolding judge_of judgedAt
+unfolding judge_of judged_at
 judge_blind s h at z u u' b = rw (b (field_at (field_of h) s (at + 8)) u u') refl
 
 pub record_blind : (s : List ℕ) (k u u' : ℕ) (v : Here) (ty z e : ℕ) → (k ≡ 0x0010 → ty ≡ 0x00FD → ⊥) → record_in s k u v ty z e ≡ record_in s k u' v ty z e

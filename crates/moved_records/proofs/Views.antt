@@ -13,7 +13,7 @@ use Rattle.cell.specs.declared.Shape.{Shape}
 use Rattle.cell.specs.declared.Shape.TheVariants.{BLANK, NUMBER, RK, LABELSST, BOOLERR, MULRK, MULBLANK, FORMULA, OTHER}
 use Rattle.cell.specs.declared.Judged.{Judged}
 use Rattle.cell.specs.declared.Judged.TheVariants as judged
-use Rattle.cell.specs.Cells.{shape_of, field_of, part_of, start_of, row_at, first_at, last_at, sized, columns, multiple, length_at, count_of, field_at, fields_fit, judged as judgedAt, judge_of}
+use Rattle.cell.specs.Cells.{shape_of, field_of, part_of, start_of, row_at, first_at, last_at, sized, columns, multiple, length_at, count_of, field_at, fields_fit, judged as judged_at, judge_of}
 use Rattle.substream.specs.declared.Here.{Here}
 use Rattle.substream.specs.declared.Step.TheVariants.{Open, Stop}
 use Rattle.substream.specs.Substream.{inner_bof, other_record, dimensions_fit, dimensions_record, on_text, passed_record, on_judged, record_in}
@@ -73,8 +73,8 @@ module _ (s : List ℕ) (p : ℕ) where
   refused_drop : (n : ℕ) → later_judged p (judged.Refused n 0) ≡ judged.Refused n p
   refused_drop n = ap (judged.Refused n) zero_on
 
-  judged_drop : (h : Shape) (z u : ℕ) → later_judged p (judgedAt (drop p s) h 0 z u) ≡ judgedAt s h p z u
-  unfolding judgedAt
+  judged_drop : (h : Shape) (z u : ℕ) → later_judged p (judged_at (drop p s) h 0 z u) ≡ judged_at s h p z u
+  unfolding judged_at
   judged_drop h z u =
       rw (count_drop h z, first_drop, fits_drop (field_of h) (count_of h s p z) 8, field_drop (field_of h) 8)
       (pick_map (later_judged p) _ (refused_drop 6) (pick_map (later_judged p) _ (refused_drop 6)

@@ -20,7 +20,7 @@ use Rattle.new_stream.proofs.Entries.{entries_step}
 use Rattle.new_places.specs.declared.Spot.{Spot}
 use Rattle.new_places.specs.declared.Fate.{Fate}
 use Rattle.new_places.specs.declared.Step.{Step}
-use Rattle.new_places.specs.declared.Step.TheVariants.{Record, End}
+use Rattle.new_places.specs.declared.Step.TheVariants.{Record}
 use Rattle.new_places.specs.Parts.{spot_of, item_of, size_of, Ready, Placed}
 use Rattle.new_places.proofs.Place.{Going, going_sum, going_next}
 use Rattle.new_places.proofs.Walking.{ahead_are}

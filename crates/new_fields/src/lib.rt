@@ -1,5 +1,7 @@
 // The changes that make the copied stream the new one, each by a walk of the old stream's records: new indices of text cells, a chunk of the strings at a time,
 // and new positions of BOUNDSHEETs.
+#![tactic(auto)]
+
 ghost use Rattle.std.specs.Prelude.{◌≡◌, ◌+◌, ◌*◌, ◌/◌, ◌%◌, ◌≤◌, ◌<◌, [], ◌∷◌, length, get_or};
 ghost use Rattle.new_places.specs.Parts.{fated};
 ghost use Rattle.new_stream.specs.Entries.{entries_of};
@@ -102,7 +104,7 @@ fn put_indices(
 }
 
 // How many text cells there are, and one more than their highest index.
-#[derive(Drop)]
+#[derive(Clone, Copy)]
 pub struct Census {
     pub total: usize,
     pub top: usize,
@@ -212,7 +214,7 @@ pub fn reindex(
 
 // Starts of top-level substreams, with their new places, in words that are lent: `count` of them so far, and as many starts as are to be passed over
 // before the next.
-#[derive(Drop)]
+#[derive(Clone, Copy)]
 pub struct Filling {
     pub count: usize,
     pub left: usize,

@@ -20,7 +20,7 @@ use Rattle.new_places.specs.declared.Spot.{Spot}
 use Rattle.new_places.specs.declared.Fate.{Fate}
 use Rattle.new_places.specs.declared.Fate.TheVariants.{Stays, Goes, Table, Text, Sheet}
 use Rattle.new_places.specs.declared.Step.{Step}
-use Rattle.new_places.specs.declared.Step.TheVariants.{Record, Rest, End}
+use Rattle.new_places.specs.declared.Step.TheVariants.{Record, Rest}
 use Rattle.new_places.specs.Parts.{spot_of, item_of, size_of, Ready}
 
 -- ---- an entry goes ahead, and at most one level inside

@@ -1,4 +1,6 @@
 // The records of a stream in order, with what becomes of each when the unused strings are dropped, and the new place of an old offset.
+#![tactic(auto)]
+
 ghost use Rattle.std.specs.Prelude.{◌≡◌, ◌+◌, ◌≤◌, ◌<◌, length};
 ghost use Rattle.new_stream.specs.Entries.{in_globals, in_later, fate_of, parts, level_after, spot_after, record_item, rest_item, on_header, entry_item};
 ghost use Rattle.new_places.specs.Parts.{fated, spot_of, item_of, size_of, Ready, Placed, LengthOf};
@@ -6,7 +8,7 @@ ghost use Rattle.new_places.specs.Parts.{fated, spot_of, item_of, size_of, Ready
 use record::Header;
 
 // Where a record stands: its place, inside how many substreams, the kind of the top-level substream, and whether the record before it is gone.
-#[derive(Drop)]
+#[derive(Clone, Copy)]
 pub struct Spot {
     pub at: usize,
     pub level: usize,
@@ -15,7 +17,7 @@ pub struct Spot {
 }
 
 // What becomes of a record: its bytes stay; it is left out; the new table stands in its place; it gets a new string index, or a new BOF position.
-#[derive(Drop)]
+#[derive(Clone, Copy)]
 pub enum Fate {
     Stays,
     Goes,
@@ -25,7 +27,7 @@ pub enum Fate {
 }
 
 // What stands at a spot: a record, the rest of the stream, or nothing.
-#[derive(Drop)]
+#[derive(Clone, Copy)]
 pub enum Step {
     Record { size: usize, fate: Fate, next: Spot },
     Rest,

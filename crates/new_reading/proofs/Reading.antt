@@ -16,7 +16,6 @@ use Rattle.record_after.proofs.Changed.{bytes_same}
 use Rattle.cell.specs.declared.Cell.{Cell}
 use Rattle.sheet_agreement.specs.Agreement.{Sheet}
 use Rattle.globals.specs.declared.Globals.{Globals}
-use Rattle.globals.specs.declared.Ended.TheVariants as globals
 use Rattle.globals.specs.Sheets.{sheets_of}
 use Rattle.workbook.specs.declared.Checked.TheVariants.{Right}
 use Rattle.workbook.specs.Check.{checked_of}

@@ -13,7 +13,6 @@ use Rattle.steps.specs.Items.{nth}
 use Rattle.record.specs.declared.Header.TheVariants.{Record}
 use Rattle.record.specs.Record.{header_at}
 use Rattle.globals.specs.declared.Globals.{Globals}
-use Rattle.globals.specs.declared.Ended.TheVariants as globals
 use Rattle.globals.specs.Globals.{globals_of}
 use Rattle.workbook.specs.declared.Checked.TheVariants.{Right}
 use Rattle.workbook.specs.Check.{checked_of}

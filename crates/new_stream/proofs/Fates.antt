@@ -13,7 +13,7 @@ use Rattle.cell.specs.declared.Judged.{Judged}
 use Rattle.cell.specs.declared.Judged.TheVariants as judged
 use Rattle.cell.specs.declared.Shape.{Shape}
 use Rattle.cell.specs.declared.Shape.TheVariants.{LABELSST, FORMULA, OTHER}
-use Rattle.cell.specs.Cells.{shape_of, judged as judgedAt, judge_of}
+use Rattle.cell.specs.Cells.{shape_of, judged as judged_at, judge_of}
 use Rattle.segments.specs.declared.Cursor.{Cursor}
 use Rattle.segments.specs.Segments.{Got, got, refused}
 use Rattle.text_result.specs.TextResult.{has_text, text_of}
@@ -115,8 +115,8 @@ Told (judged.Passed n) = Unit {0}
 Told (judged.Refused n o) = Unit {0}
 Told judged.Other = ⊥
 
-judged_told : (s : List ℕ) (h : Shape) (p z u : ℕ) → Told (judgedAt s h p z u)
-unfolding judgedAt
+judged_told : (s : List ℕ) (h : Shape) (p z u : ℕ) → Told (judged_at s h p z u)
+unfolding judged_at
 judged_told s h p z u = pick_any Told _ tt (pick_any Told _ tt (pick_any Told _ (pick_any Told _ tt tt) tt))
 
 pub label_told : (s : List ℕ) (p z u : ℕ) → judge_of s LABELSST p z u ≡ judged.Other → ⊥

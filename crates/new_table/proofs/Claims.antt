@@ -28,7 +28,7 @@ use Rattle.workbook.specs.Check.{checked_of, on_checked}
 use Rattle.reading.specs.Reading.{strings_at, listed_of, reading_of}
 use Rattle.record_chain.specs.Chain.{Every}
 use Rattle.record_chain.proofs.Sheets.{passing}
-use Rattle.table_texts.specs.Texts.{Text, text_at, the_text, texts_of, AllHold}
+use Rattle.table_texts.specs.Texts.{text_at, the_text, texts_of, AllHold}
 use Rattle.table_texts.specs.Written.{sst_body, table_bytes, table_size}
 use Rattle.table_texts.proofs.Held.{num_below, texts_hold, kept_hold, kept_few}
 use Rattle.table_texts.proofs.Table.{sst_here, read, to_end, table_passes, texts_same, units_same, map_units}

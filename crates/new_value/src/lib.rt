@@ -1,4 +1,6 @@
 // A new value for a cell: the number that its value field takes, and the field stored.
+#![tactic(auto)]
+
 ghost use Rattle.std.specs.Prelude.{◌≡◌, ◌+◌, ◌≤◌, length};
 ghost use Rattle.value.specs.Value.{width_of};
 ghost use Rattle.new_value.specs.Change.{float_plan, packed_plan, number_plan, put_if, text_plan, pair_plan, plan_of, answer_of, changed};
@@ -6,7 +8,7 @@ ghost use Rattle.number.specs.Packing.{pack_of};
 
 use value::Field;
 
-#[derive(Drop)]
+#[derive(Clone, Copy)]
 pub enum NewValue {
     Number(f64),
     Text(u32),
@@ -15,13 +17,13 @@ pub enum NewValue {
 }
 
 // The number that a field takes, or the refusal.
-#[derive(Drop)]
+#[derive(Clone, Copy)]
 pub enum Plan {
     Put(u64),
     Refused { number: u8, offset: usize },
 }
 
-#[derive(Drop)]
+#[derive(Clone, Copy)]
 pub enum Answer {
     Granted,
     Refused { number: u8, offset: usize },

@@ -63,6 +63,8 @@ whole_lt m h = lt_of_le_of_lt (mul-le-mul_right (2 ^ 1074) h) (lit< {m = 2 ^ 53 
 
 in_units_lem : (x : Float) (s : Bool) (m : ℕ) → HasValue x s m 1 → HasValue x s (m * 2 ^ 1074) (2 ^ 1074)
 in_units_lem (fin t k e) s m v = (v.0, ap (λ (y : ℕ). y * 2 ^ 1074) (sym (mul-one (k * up e)) ∙ v.1) ∙ mul_right_comm m (down e) (2 ^ 1074))
+in_units_lem lib.Ieee.nan s m v = elim v [ ]
+in_units_lem (lib.Ieee.inf _) s m v = elim v [ ]
 
 pub whole_rounded : (s : Bool) (m : ℕ) → m ≤ 2 ^ 53 → round binary64 s m 1 ≡ of_bits binary64 (signed s (rounded (m * 2 ^ 1074) 1))
 whole_rounded s m h = round_of s m 1 (m * 2 ^ 1074) 1 (lit< tt) (lit< tt) refl (lt_of_le_of_lt (div-le_self (m * 2 ^ 1074) 1) (whole_lt m h))
@@ -186,6 +188,8 @@ raised_is v h = go (of_bits binary64 (0x4330_0000_0000_0000 + bit_xor v 53687091
     go : (x : Float) → HasValue x false ((2 ^ 52 + bit_xor v 536870912) * 2 ^ 1074) (2 ^ 1074) → (t : Bool) → leb (2 ^ 29) v ≡ t → sub binary64 x (of_bits binary64 0x4330_0000_2000_0000) ≡ round binary64 t (pick t (2 ^ 30 - v) v) 1
     go (fin s m e) i false f = let l = leb-false (2 ^ 29) v f in less_above s m e (2 ^ 52 + bit_xor v 536870912) v i (omega arith) (omega (arith, turned v h))
     go (fin s m e) i true f = let l = leb-true (2 ^ 29) v f in less_below s m e (2 ^ 52 + bit_xor v 536870912) (2 ^ 30 - v) i (omega arith) (omega (arith, turned v h)) (omega arith)
+    go lib.Ieee.nan i t f = elim i [ ]
+    go (lib.Ieee.inf _) i t f = elim i [ ]
 
 -- ---- a number divided by 100
 
@@ -201,6 +205,8 @@ hundredth (fin t m e) s n v h =
   where
     same : m * up e * 1 * 2 ^ 1074 * 100 ≡ n * (100 * down e)
     same = rw (mul-one, v.1, mul_assoc, mul_comm 100 (down e))
+hundredth lib.Ieee.nan s n v h = elim v [ ]
+hundredth (lib.Ieee.inf _) s n v h = elim v [ ]
 
 -- ---- the number of a word, by its form
 

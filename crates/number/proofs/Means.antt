@@ -8,7 +8,7 @@ use mathlib.Core.Logic.{◌↔◌}
 use lib.Dec.{leb, eqb}
 use lib.Pow.{pow_pos}
 use lib.Pow as Pow
-use lib.Ieee.{binary64, fits, of_bits}
+use lib.Ieee.{binary64, of_bits}
 use lib.Ieee.Exact.{HasValue}
 use borrow.Author.Tests.{leb-true, leb-false, ltb-true, eqb-true, eqb-false, lt-leb, le-leb, lt-ltb, eq-eqb, ne_eqb}
 use Rattle.steps.specs.Choice.{pick}

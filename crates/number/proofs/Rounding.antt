@@ -115,6 +115,8 @@ unfolding to_bits
 to_bits_value (fin t m e) s a v =
     let n-is : m * up e * 2 ^ 1074 / down e ≡ a = ap (λ (y : ℕ). y / down e) v.1 ∙ mul-div_cancel a (down_pos e) in
     rw (n-is, v.0, cond_pick, add_assoc)
+to_bits_value nan s a v = elim v [ ]
+to_bits_value (inf _) s a v = elim v [ ]
 
 bits_at : (a e t : ℕ) → size a - 53 ≡ e → a ≡ t * 2 ^ e → (size a - 53) * 2 ^ 52 + a / 2 ^ (size a - 53) ≡ e * 2 ^ 52 + t
 bits_at a e t p h = rw (p, h, mul-div_cancel t (pow_pos e))

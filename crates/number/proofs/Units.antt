@@ -72,6 +72,8 @@ size_rounded b h = ap (signed (float_sign b)) (rounded_units (b % 2 ^ 63 / 2 ^ 5
 
 pub one_value : (x : Float) (s t : Bool) (a c : ℕ) → HasValue x s a (2 ^ 1074) → HasValue x t c (2 ^ 1074) → (s ≡ t) × (a ≡ c)
 one_value (fin u m e) s t a c v w = (sym v.0 ∙ w.0, eq_of_mul-eq-mul_right (down e) (down_pos e) a c (sym v.1 ∙ w.1))
+one_value nan s t a c v w = elim v [ ]
+one_value (inf _) s t a c v w = elim v [ ]
 
 pub value_finite : (b : ℕ) (s : Bool) (a : ℕ) → HasValue (of_bits binary64 b) s a (2 ^ 1074) → Finite b
 unfolding of_bits of_fields

@@ -1,4 +1,6 @@
 // Numbers as a workbook holds them: the 64 bits of an f64, and RK words, decoded and packed; whole numbers from 0 up, by the 64 bits of an f64.
+#![tactic(auto)]
+
 ghost use Rattle.std.specs.Prelude.{◌≡◌, false, ◌<◌, ◌/◌, ◌%◌, ◌^◌};
 ghost use Rattle.std.specs.Float.{binary64};
 ghost use Rattle.std.specs.Float.Ieee.{of_bits, round};
@@ -8,14 +10,14 @@ ghost use Rattle.number.specs.Packing.{whole_form, pack_of};
 ghost use Rattle.number.specs.Amount.{amount_of};
 
 // What an RK word means.
-#[derive(Drop)]
+#[derive(Clone, Copy)]
 pub enum Rk {
     Number(f64),
     Nothing,
 }
 
 // The undivided RK word of a number, if there is one.
-#[derive(Drop)]
+#[derive(Clone, Copy)]
 pub enum Packed {
     Word(u32),
     Unpacked,
@@ -165,7 +167,7 @@ fn whole_form(b: u64) -> Packed
 }
 
 // A whole number up to a limit, or none.
-#[derive(Drop)]
+#[derive(Clone, Copy)]
 pub enum Amount {
     Is(u32),
     Unfit,

@@ -18,7 +18,7 @@ use Rattle.pair.specs.declared.PairChecked.{PairChecked}
 use Rattle.pair.specs.declared.PairChecked.TheVariants as checked
 use Rattle.pair.specs.declared.PairCorrected.{PairCorrected}
 use Rattle.pair.specs.declared.PairCorrected.TheVariants as corrected
-use Rattle.pair.specs.Pair.{pair_of, Passes, of_stream, on_pair, PairCorrection, refuses, writes, asked, pair_correction_of, answer_of, session_after}
+use Rattle.pair.specs.Pair.{pair_of, Passes, of_stream, on_pair, PairCorrection, refuses, asked, pair_correction_of, answer_of, session_after}
 use Rattle.pair.proofs.Laws.{passes_is}
 
 -- ---- in the session

@@ -1,5 +1,7 @@
 // One template workbook, and a session over it: the session's sheets hide the template's by their number, and its text indices resolve in the template
 // where it has no string table.
+#![tactic(auto)]
+
 ghost use Rattle.std.specs.Prelude.{◌≡◌, ◌+◌, ◌≤◌, length};
 ghost use Rattle.new_value.specs.Change.{Held};
 ghost use Rattle.reading.specs.Cells.{listed_from};
@@ -14,14 +16,14 @@ use new_value::{Answer, NewValue};
 use reading::Place;
 use workbook::Checked;
 
-#[derive(Drop)]
+#[derive(Clone, Copy)]
 pub enum Whose {
     Session,
     Template,
 }
 
 // What a refusal is of: one of the streams, or the question itself (11, 12, 16, 17, 18, at 0).
-#[derive(Drop)]
+#[derive(Clone, Copy)]
 pub enum Of {
     Session,
     Template,
@@ -29,7 +31,7 @@ pub enum Of {
 }
 
 // What the globals of both hold, or whose refusal.
-#[derive(Drop)]
+#[derive(Clone, Copy)]
 pub enum PairChecked {
     Passed {
         template: Globals,
@@ -43,7 +45,7 @@ pub enum PairChecked {
 }
 
 // A sheet, its BOUNDSHEET's header, and whose it is.
-#[derive(Drop)]
+#[derive(Clone, Copy)]
 pub enum PairSheet {
     Sheet {
         whose: Whose,
@@ -60,20 +62,20 @@ pub enum PairSheet {
 }
 
 // Where a listing starts, and in whose stream.
-#[derive(Drop)]
+#[derive(Clone, Copy)]
 pub enum PairCells {
     From { whose: Whose, place: Place },
     Refused { of: Of, number: u8, offset: usize },
 }
 
-#[derive(Drop)]
+#[derive(Clone, Copy)]
 pub enum PairCorrected {
     Granted,
     Refused { of: Of, number: u8, offset: usize },
 }
 
 // A BOUNDSHEET of the one stream or the other.
-#[derive(Drop)]
+#[derive(Clone, Copy)]
 pub enum Where {
     InSession {
         header: usize,

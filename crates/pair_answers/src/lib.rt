@@ -1,4 +1,6 @@
 // The answers over a template and a session in plain numbers, as C has them: whose is 1 for the template, 2 for the session, 0 for neither.
+#![tactic(auto)]
+
 ghost use Rattle.std.specs.Prelude.{◌≡◌, length};
 ghost use Rattle.new_value.specs.declared.NewValue.{NewValue};
 ghost use Rattle.pair.specs.Pair.{pair_of, pair_sheet_of, pair_cells_of, pair_correction_of, answer_of, session_after};
@@ -11,7 +13,7 @@ use pair::{Of, PairCells, PairChecked, PairCorrected, PairSheet, Whose};
 use pair_texts::{PairFetched, PairFilled};
 
 // What the check tells of one stream: its sheets and strings, and where its first string is.
-#[derive(Drop)]
+#[derive(Clone, Copy)]
 pub struct Stream {
     pub sheets: usize,
     pub strings: u32,
@@ -22,7 +24,7 @@ pub struct Stream {
 
 // Of both streams: first the template's sheets, strings and place, then the session's. `table` says in whose table the session's indices resolve.
 #[repr(C)]
-#[derive(Drop)]
+#[derive(Clone, Copy)]
 pub struct Check {
     pub whose: u8,
     pub number: u8,
@@ -43,7 +45,7 @@ pub struct Check {
 
 // A sheet: its BOUNDSHEET, 12 bytes after whose header its name starts, the name's bytes, the bytes of a character, its type and its rows.
 #[repr(C)]
-#[derive(Drop)]
+#[derive(Clone, Copy)]
 pub struct Sheet {
     pub whose: u8,
     pub number: u8,
@@ -57,7 +59,7 @@ pub struct Sheet {
 
 // Where a listing starts.
 #[repr(C)]
-#[derive(Drop)]
+#[derive(Clone, Copy)]
 pub struct Cells {
     pub whose: u8,
     pub number: u8,
@@ -68,7 +70,7 @@ pub struct Cells {
 }
 
 #[repr(C)]
-#[derive(Drop)]
+#[derive(Clone, Copy)]
 pub struct Units {
     pub whose: u8,
     pub number: u8,
@@ -77,7 +79,7 @@ pub struct Units {
 }
 
 #[repr(C)]
-#[derive(Drop)]
+#[derive(Clone, Copy)]
 pub struct Answer {
     pub whose: u8,
     pub number: u8,
@@ -86,7 +88,7 @@ pub struct Answer {
 
 // Of how many strings of the template and of the session the tables have the places.
 #[repr(C)]
-#[derive(Drop)]
+#[derive(Clone, Copy)]
 pub struct Filled {
     pub whose: u8,
     pub number: u8,

@@ -1,4 +1,6 @@
 // A session without its unused strings, over its template.
+#![tactic(auto)]
+
 ghost use Rattle.std.specs.Prelude.{◌≡◌};
 ghost use Rattle.new_table.specs.NewTable.{compacted_of};
 ghost use Rattle.compact.specs.Compacted.{answer_to, buffer_to};
@@ -10,7 +12,7 @@ use globals::Globals;
 use pair::{Of, PairChecked};
 
 // The new session's length, or a refusal and what it is of.
-#[derive(Drop)]
+#[derive(Clone, Copy)]
 pub enum PairCompacted {
     Written { length: usize },
     Refused { of: Of, number: u8, offset: usize },

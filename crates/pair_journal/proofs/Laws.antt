@@ -23,11 +23,11 @@ use Rattle.pair.specs.declared.PairChecked.{PairChecked}
 use Rattle.pair.specs.declared.PairChecked.TheVariants as checked
 use Rattle.pair.specs.declared.PairCorrected.{PairCorrected}
 use Rattle.pair.specs.declared.PairCorrected.TheVariants as corrected
-use Rattle.pair.specs.Pair.{pair_of, of_stream, on_pair, PairCorrection, refuses, writes, asked, answer_of, session_after}
+use Rattle.pair.specs.Pair.{pair_of, of_stream, on_pair, PairCorrection, refuses, asked, answer_of, session_after}
 use Rattle.pair.proofs.Laws.{passes_both}
 use Rattle.pair_journal.specs.declared.PairReplayed.{PairReplayed}
 use Rattle.pair_journal.specs.declared.PairReplayed.TheVariants as answer
-use Rattle.pair_journal.specs.Journals.{PairStart, declines, begins, start_asked, pair_start_of, start_answer, journal_started, pair_journalled_of, pair_journal_after, PairReplay, declined, ran, replay_asked, pair_replay_of, session_replayed, pair_replay_answer, replay_told}
+use Rattle.pair_journal.specs.Journals.{PairStart, declines, start_asked, pair_start_of, start_answer, journal_started, pair_journalled_of, pair_journal_after, PairReplay, declined, replay_asked, pair_replay_of, session_replayed, pair_replay_answer, replay_told}
 use Rattle.pair_journal.specs.Parts.{answer_told}
 
 -- ---- starting

@@ -1,4 +1,6 @@
 // Journal and replay of a session over a template.
+#![tactic(auto)]
+
 ghost use Rattle.std.specs.Prelude.{◌≡◌, length};
 ghost use Rattle.journal.specs.Entries.{count_in};
 ghost use Rattle.pair.specs.Pair.{answer_of, session_after};
@@ -10,7 +12,7 @@ use pair::{Of, PairChecked, PairCorrected};
 use replay_entry::Replayed;
 
 // All entries are made; a refusal before the first of them; or the refusal of one, by its number, with the entry's number in the journal.
-#[derive(Drop)]
+#[derive(Clone, Copy)]
 pub enum PairReplayed {
     All(u32),
     Refused { of: Of, number: u8, offset: usize },

@@ -1,6 +1,8 @@
 // The strings and texts of a template and a session.
+#![tactic(auto)]
+
 ghost use Rattle.std.specs.Prelude.{◌≡◌, ◌*◌, ◌≤◌, ltb, length, ◌||◌};
-ghost use Rattle.string_places.specs.Places.{places_at, table_of as tableWith};
+ghost use Rattle.string_places.specs.Places.{places_at, table_of as table_with};
 ghost use Rattle.fetch.specs.Parts.{TableAt};
 ghost use Rattle.pair_texts.specs.Texts.{table_of, pair_fetch_of, pair_buffer_of, told_of, pair_text_of, pair_text_buffer};
 ghost use Rattle.pair_texts.specs.Tables.{both_filled, first_table, second_table, pair_fill_of, template_table_after, session_table_after};
@@ -10,14 +12,14 @@ use pair::{Of, PairChecked, Where, Whose};
 use strings::Fetched;
 
 // How many units were written, and of whose table or sheet.
-#[derive(Drop)]
+#[derive(Clone, Copy)]
 pub enum PairFetched {
     Units { whose: Whose, units: usize },
     Refused { of: Of, number: u8, offset: usize },
 }
 
 // Of how many strings of each the tables have the places.
-#[derive(Drop)]
+#[derive(Clone, Copy)]
 pub enum PairFilled {
     Strings { template: u32, session: u32 },
     Refused { of: Of, number: u8, offset: usize },
@@ -181,8 +183,8 @@ fn fill_two(
     second: &mut [u32],
 )
     requires { (length template.now ≤ 16777216) × TableAt template.now p n × (length session.now ≤ 16777216) × TableAt session.now q m }
-    ensures first_after { first.new ≡ tableWith first.old (places_at template.now p) }
-    ensures second_after { second.new ≡ tableWith second.old (places_at session.now q) }
+    ensures first_after { first.new ≡ table_with first.old (places_at template.now p) }
+    ensures second_after { second.new ≡ table_with second.old (places_at session.now q) }
 {
     string_places::fill_checked(template, p, n, first);
     string_places::fill_checked(session, q, m, second);

@@ -11,7 +11,6 @@ use Rattle.steps.specs.Choice.{pick}
 use Rattle.steps.proofs.Choice.{never, pick_any, pick_by, pick_true, pick_false, pick_eq, pick_ne}
 use Rattle.steps.specs.Walk.{more, stop, run}
 use Rattle.steps.proofs.Walk.{run_agree, run_more, run_stop}
-use Rattle.steps.specs.Items.{ends}
 use Rattle.byte_numbers.specs.Bytes.{byte_at, num_at}
 use Rattle.byte_numbers.proofs.Laws.{num_same}
 use Rattle.record.specs.declared.Header.{Header}
@@ -24,7 +23,7 @@ use Rattle.substream.specs.declared.Step.TheVariants.{More, Open, Close, Stop}
 use Rattle.substream.specs.declared.Ended.{Ended}
 use Rattle.substream.specs.declared.Ended.TheVariants.{At, Refused}
 use Rattle.substream.specs.Substream.{past_parent, version_at, kind_at, step_of, back, turn, records_from, substream_in}
-use Rattle.substream.proofs.Laws.{Inner, Onward, go, left, falls, from_more, from_stop, onward}
+use Rattle.substream.proofs.Laws.{Inner, Onward, go, left, from_more, from_stop, onward}
 use Rattle.sheet_agreement.specs.Agreement.{Bof}
 use Rattle.top_level.specs.declared.Top.{Top}
 use Rattle.top_level.specs.declared.Top.TheVariants as top
@@ -32,7 +31,7 @@ use Rattle.top_level.specs.declared.Walked.TheVariants as walked
 use Rattle.top_level.specs.declared.Found.{Found}
 use Rattle.top_level.specs.TopLevel as tops
 use Rattle.top_level.proofs.Bofs as tops_laws
-use Rattle.record_chain.specs.Chain.{on, Over, Reach}
+use Rattle.record_chain.specs.Chain.{Over, Reach}
 use Rattle.record_chain.specs.Tops.{Substream}
 use Rattle.record_chain.proofs.Chain.{chain_keeps, over, Keeps, collect_agree}
 use Rattle.record_chain.proofs.Walks.{step_leads, reach_more, substream_reach}

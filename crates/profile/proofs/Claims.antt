@@ -234,7 +234,7 @@ session_filled s n k v h =
     let l = placed_from s v in record {
       count = sym (zero-add (length l)) ∙ judged_count k n l 0 0 i.judged;
       rows_of = λ j m. judged_nth k n (λ (x : Placed). x.cell.row) (λ (y : ℕ). y / k) (λ i t x l r. r.row) l 0 0 i.judged j m ∙ ap (λ (y : ℕ). y / k) (zero-add j);
-      columns_of_lem = λ j m. judged_nth k n (λ (x : Placed). x.cell.column) (λ (y : ℕ). y % k) (λ i t x l r. r.column) l 0 0 i.judged j m ∙ ap (λ (y : ℕ). y % k) (zero-add j);
+      columns_of = λ j m. judged_nth k n (λ (x : Placed). x.cell.column) (λ (y : ℕ). y % k) (λ i t x l r. r.column) l 0 0 i.judged j m ∙ ap (λ (y : ℕ). y % k) (zero-add j);
       seconds = seconds_rise n k i.columns l i.judged;
     }
 

@@ -31,7 +31,7 @@ use Rattle.listing.specs.Listing.{next_of}
 use Rattle.listing.specs.Parts.{found_sheet}
 use Rattle.listing.proofs.Laws.{on_listed, listed_next, next_nearer}
 use Rattle.profile.specs.declared.NextPlaced.{NextPlaced}
-use Rattle.profile.specs.declared.NextPlaced.TheVariants as nextPlaced
+use Rattle.profile.specs.declared.NextPlaced.TheVariants as next_placed
 use Rattle.profile.specs.declared.Judged.{Judged}
 use Rattle.profile.specs.declared.Judged.TheVariants.{Broken}
 use Rattle.profile.specs.declared.Session.{Session}
@@ -124,28 +124,28 @@ module _ (s : List ℕ) (v : Place) {r : NextPlaced} (is : listed_in r ≡ next_
   listed_by : {x : NextPlaced} → r ≡ x → listed_from s v ≡ on_listed s (listed_in x)
   listed_by h = listed_next s v ∙ ap (on_listed s) (sym is ∙ ap listed_in h)
 
-  pub placed_nearer : (at : ℕ) (c : Cell) (w : Place) → r ≡ nextPlaced.Cell at c w → remaining s w < remaining s v
+  pub placed_nearer : (at : ℕ) (c : Cell) (w : Place) → r ≡ next_placed.Cell at c w → remaining s w < remaining s v
   placed_nearer at c w h = next_nearer s v refl c w (sym is ∙ ap listed_in h)
 
-  pub no_next : r ≡ nextPlaced.End → (n : ℕ) → 2 ≡ nth (listed_from s v) n third_of 2
+  pub no_next : r ≡ next_placed.End → (n : ℕ) → 2 ≡ nth (listed_from s v) n third_of 2
   no_next h n = nth_none third_of 2 (listed_from s v) n (listed_by h)
 
-  pub no_first : r ≡ nextPlaced.End → 2 ≡ columns_of (listed_from s v)
+  pub no_first : r ≡ next_placed.End → 2 ≡ columns_of (listed_from s v)
   unfolding columns_of
   no_first h = no_next h 2
 
-  pub by_next : (at : ℕ) (c : Cell) (w : Place) (k : ℕ) → r ≡ nextPlaced.Cell at c w → k ≡ third_of c → k ≡ nth (listed_from s v) 0 third_of 2
+  pub by_next : (at : ℕ) (c : Cell) (w : Place) (k : ℕ) → r ≡ next_placed.Cell at c w → k ≡ third_of c → k ≡ nth (listed_from s v) 0 third_of 2
   by_next at c w k h e = e ∙ nth_here third_of 2 (listed_from s v) 0 c (listed_from s w) (listed_by h) refl
 
-  module _ (at : ℕ) (c : Cell) (w : Place) (h : r ≡ nextPlaced.Cell at c w) {r₁ : NextPlaced} (is₁ : listed_in r₁ ≡ next_of s w) where
+  module _ (at : ℕ) (c : Cell) (w : Place) (h : r ≡ next_placed.Cell at c w) {r₁ : NextPlaced} (is₁ : listed_in r₁ ≡ next_of s w) where
     from_second : {x : NextPlaced} → r₁ ≡ x → listed_from s v ≡ c ∷ on_listed s (listed_in x)
     from_second h₁ = listed_by h ∙ ap (λ (l : List Cell). c ∷ l) (listed_next s w ∙ ap (on_listed s) (sym is₁ ∙ ap listed_in h₁))
 
-    pub no_second : r₁ ≡ nextPlaced.End → 2 ≡ columns_of (listed_from s v)
+    pub no_second : r₁ ≡ next_placed.End → 2 ≡ columns_of (listed_from s v)
     unfolding columns_of nth
     no_second h₁ = rw (from_second h₁) refl
 
-    pub by_third : (at₁ : ℕ) (c₁ : Cell) (w₁ : Place) (k : ℕ) → r₁ ≡ nextPlaced.Cell at₁ c₁ w₁ → k ≡ nth (listed_from s w₁) 0 third_of 2 → k ≡ columns_of (listed_from s v)
+    pub by_third : (at₁ : ℕ) (c₁ : Cell) (w₁ : Place) (k : ℕ) → r₁ ≡ next_placed.Cell at₁ c₁ w₁ → k ≡ nth (listed_from s w₁) 0 third_of 2 → k ≡ columns_of (listed_from s v)
     unfolding columns_of nth
     by_third at₁ c₁ w₁ k h₁ e = e ∙ rw (from_second h₁) refl
 
@@ -159,11 +159,11 @@ pub early_fits : (i n : ℕ) (a : Amount) → Early i a → a ≡ Is n → i + 1
 early_fits i n a h e = let l : i < 196608 = subst (Early i) e h in omega arith
 
 module _ (s : List ℕ) (k : ℕ) (v₀ v : Place) (i seconds : ℕ) (inv : JudgedTo s k v₀ v i seconds) {r : NextPlaced} (is : placed_from s v ≡ on_placed s r) where
-  pub judged_end : (y : Judged) → r ≡ nextPlaced.End → y ≡ ended_at k i → y ≡ judged_from k 0 0 (placed_from s v₀)
+  pub judged_end : (y : Judged) → r ≡ next_placed.End → y ≡ ended_at k i → y ≡ judged_from k 0 0 (placed_from s v₀)
   unfolding judged_from
   judged_end y h e = e ∙ sym (inv ∙ ap (judged_from k i seconds) (is ∙ ap (on_placed s) h))
 
-  module _ (at : ℕ) (c : Cell) (w : Place) (h : r ≡ nextPlaced.Cell at c w) {a : Amount} (e : a ≡ amount_at k i seconds c) where
+  module _ (at : ℕ) (c : Cell) (w : Place) (h : r ≡ next_placed.Cell at c w) {a : Amount} (e : a ≡ amount_at k i seconds c) where
     by_amount : {x : Amount} → a ≡ x → judged_from k 0 0 (placed_from s v₀) ≡ on_amount (Broken at) (λ n. judged_from k (i + 1) (seconds_after (i % k) seconds n) (placed_from s w)) x
     unfolding judged_from
     by_amount f =

@@ -5,18 +5,18 @@ use Rattle.number.specs.declared.Amount.TheVariants.{Is, Unfit}
 use Rattle.listing.specs.declared.Listed.{Listed}
 use Rattle.listing.specs.declared.Listed.TheVariants as listed
 use Rattle.profile.specs.declared.NextPlaced.{NextPlaced}
-use Rattle.profile.specs.declared.NextPlaced.TheVariants as nextPlaced
+use Rattle.profile.specs.declared.NextPlaced.TheVariants as next_placed
 use Rattle.profile.specs.Placed.{Placed, placed_from}
 
 -- what `next_with_record` gives, without the record's offset
 abbrev pub listed_in : NextPlaced → Listed
-listed_in (nextPlaced.Cell at c w) = listed.Cell c w
-listed_in nextPlaced.End = listed.End
+listed_in (next_placed.Cell at c w) = listed.Cell c w
+listed_in next_placed.End = listed.End
 
 -- and the cells with their records by it
 abbrev pub on_placed : List ℕ → NextPlaced → List Placed
-on_placed s (nextPlaced.Cell at c w) = record { at = at; cell = c } ∷ placed_from s w
-on_placed s nextPlaced.End = []
+on_placed s (next_placed.Cell at c w) = record { at = at; cell = c } ∷ placed_from s w
+on_placed s next_placed.End = []
 
 -- there are two columns or three
 abbrev pub TwoOrThree : ℕ → Type 0

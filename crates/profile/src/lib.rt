@@ -1,4 +1,6 @@
 // The session profile: whether a stream is of the kind that the sensors write.
+#![tactic(auto)]
+
 ghost use Rattle.std.specs.Prelude.{◌≡◌, ◌<◌, ◌/◌, ◌%◌};
 ghost use Rattle.steps.specs.Items.{nth};
 ghost use Rattle.reading.specs.Cells.{listed_from};
@@ -15,21 +17,21 @@ use value::CellValue;
 use workbook::Checked;
 
 // The next cell with the offset of its record's header, and the place after it; or the end of the sheet.
-#[derive(Drop)]
+#[derive(Clone, Copy)]
 pub enum NextPlaced {
     Cell { at: usize, cell: Cell, next: Place },
     End,
 }
 
 // How many rows, or the offset of the record of the first cell that breaks the profile.
-#[derive(Drop)]
+#[derive(Clone, Copy)]
 pub enum Judged {
     Rows(u32),
     Broken(usize),
 }
 
 // How many rows and columns, and where the cells start; or the refusal's number and offset.
-#[derive(Drop)]
+#[derive(Clone, Copy)]
 pub enum Session {
     Inside {
         rows: u32,

@@ -21,7 +21,7 @@ use Rattle.cell.specs.Cells.{shape_of, is_cell, row_at, first_at, count_of, cell
 use Rattle.cell.proofs.Sizes.{count_room}
 use Rattle.reading.specs.declared.Place.{Place}
 use Rattle.reading.specs.Parts.{outside_item}
-use Rattle.reading.specs.Cells.{place_at, other_item, on_found, record_item, on_header as itemOn, cell_item, remaining, listed_from}
+use Rattle.reading.specs.Cells.{place_at, other_item, on_found, record_item, on_header as item_on, cell_item, remaining, listed_from}
 use Rattle.reading.proofs.Laws.{count_small, found_absent, listed_step, record_cells}
 use Rattle.reading.specs.declared.Outside.{Outside}
 use Rattle.reading.specs.declared.Outside.TheVariants as outside
@@ -108,9 +108,9 @@ module _ (s : List ℕ) (at level : ℕ) where
   by_item (outside.Next e l) i f = let g = f e l refl in (listed_step s (place_at at level) ∙ ap (λ (x : Item Place Cell). onto x (λ p. listed_from s p)) (sym i), g.0, g.1)
   by_item outside.End i f = listed_step s (place_at at level) ∙ ap (λ (x : Item Place Cell). onto x (λ p. listed_from s p)) (sym i)
 
-  no_record : (h : Header) → ends ≡ itemOn s (place_at at level) h → header_at s at ≡ h → Passed s at level outside.End
+  no_record : (h : Header) → ends ≡ item_on s (place_at at level) h → header_at s at ≡ h → Passed s at level outside.End
   unfolding cell_item place_at
-  no_record h e i = by_item outside.End (e ∙ ap (itemOn s (place_at at level)) (sym i)) (λ e l i. absurd (let z : ◌≡◌ {A = ℕ} 0 1 = cc in omega arith))
+  no_record h e i = by_item outside.End (e ∙ ap (item_on s (place_at at level)) (sym i)) (λ e l i. absurd (let z : ◌≡◌ {A = ℕ} 0 1 = cc in omega arith))
 
   module _ (id z e : ℕ) (h : header_at s at ≡ Record id z e) where
     abbrev beside : Item Place Cell
@@ -132,7 +132,7 @@ module _ (s : List ℕ) (at level : ℕ) where
     unfolding cell_item place_at other_item
     by_other g =
         let w = whole s at id z e h in
-        by_item (past beside) (onward.same ∙ sym g ∙ ap (itemOn s (place_at at level)) (sym h)) (λ f l i. let k = onward.end f l i in (omega arith, omega arith))
+        by_item (past beside) (onward.same ∙ sym g ∙ ap (item_on s (place_at at level)) (sym h)) (λ f l i. let k = onward.end f l i in (omega arith, omega arith))
 
     record_says : Scan s at level (record_scan s at level id z e)
     unfolding record_scan record_item place_at
@@ -186,7 +186,7 @@ no_cells FORMULA s at z e = never (cc)
 no_cells OTHER s at z e = refl
 
 module _ (s : List ℕ) (at t z e : ℕ) (h : header_at s at ≡ Record t z e) where
-  skipped_by : (a b c : Bool) → is_cell (shape_of t) ≡ a → eqb t 0x0809 ≡ b → eqb t 0x000A ≡ c → pick a false (pick b false (pick c false true)) ≡ true → itemOn s (place_at at 0) (Record t z e) ≡ skips (place_at e 0)
+  skipped_by : (a b c : Bool) → is_cell (shape_of t) ≡ a → eqb t 0x0809 ≡ b → eqb t 0x000A ≡ c → pick a false (pick b false (pick c false true)) ≡ true → item_on s (place_at at 0) (Record t z e) ≡ skips (place_at e 0)
   unfolding pick record_item other_item place_at
   skipped_by true b c i j k x = never (cc)
   skipped_by false true c i j k x = never (cc)
@@ -198,7 +198,7 @@ module _ (s : List ℕ) (at t z e : ℕ) (h : header_at s at ≡ Record t z e) w
 
   pub other_skipped : other t ≡ true → cell_item s (place_at at 0) ≡ skips (place_at e 0)
   unfolding other cell_item place_at
-  other_skipped x = ap (itemOn s (place_at at 0)) h ∙ skipped_by (is_cell (shape_of t)) (eqb t 0x0809) (eqb t 0x000A) refl refl refl x
+  other_skipped x = ap (item_on s (place_at at 0)) h ∙ skipped_by (is_cell (shape_of t)) (eqb t 0x0809) (eqb t 0x000A) refl refl refl x
 
 -- what a record without a cell doesn't change is the same at both places
 pub leads_same : {A : Type 0} (s : List ℕ) (f : Place → A) → ((v w : Place) → cell_item s v ≡ skips w → f v ≡ f w) → (u v : Place) → Leads s u v → f u ≡ f v

@@ -1,5 +1,7 @@
 // What a stream says: the definitions of its reading. The code is what all who go through a sheet's cells share: a place, the way past a record, and the
 // cells of a record for those who need their addresses and no values; and the short way past records without any.
+#![tactic(auto)]
+
 ghost use Rattle.std.specs.Prelude.{◌≡◌};
 ghost use Rattle.reading.specs.Cells.{place_at, other_item};
 ghost use Rattle.reading.specs.Parts.{outside_item};
@@ -8,7 +10,7 @@ ghost use Rattle.reading.specs.Scan.{scan_of, other, Past, PastFrom};
 use record::Header;
 
 // The next record, the next cell in it, and how many substreams inside the sheet's own it lies in.
-#[derive(Drop)]
+#[derive(Clone, Copy)]
 pub struct Place {
     pub at: usize,
     pub part: u16,
@@ -16,7 +18,7 @@ pub struct Place {
 }
 
 // A record that holds no cell of the sheet: on from its end, inside so many substreams, or the end of the list.
-#[derive(Drop)]
+#[derive(Clone, Copy)]
 pub enum Outside {
     Next { at: usize, level: u8 },
     End,
@@ -48,7 +50,7 @@ pub fn past_record(id: u16, level: u8, end: usize) -> Outside
 }
 
 // The record at a place: its cells, which stand in one row from the first column on; or none.
-#[derive(Drop)]
+#[derive(Clone, Copy)]
 pub enum Scanned {
     Cells {
         id: u16,

@@ -11,7 +11,6 @@ use borrow.Author.Tests.{eqb-true, eqb-false}
 use Rattle.steps.specs.Choice.{pick}
 use Rattle.steps.proofs.Choice.{pick_any, pick_by, pick_false, pick_same}
 use Rattle.byte_numbers.proofs.Laws.{Same}
-use Rattle.record.proofs.Laws.{whole}
 use Rattle.value.specs.declared.CellValue.{CellValue}
 use Rattle.cell.specs.declared.Cell.{Cell}
 use Rattle.cell.specs.Cells.{shape_of, field_of, part_of, field_at, cell_from, cell_of, tokens_of}

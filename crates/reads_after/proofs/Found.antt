@@ -10,7 +10,7 @@ use lib.Dec.{eqb}
 use borrow.Author.Tests.{eqb-true}
 use Rattle.steps.specs.Choice.{pick}
 use Rattle.steps.proofs.Choice.{never, pick_any, pick_by}
-use Rattle.steps.specs.Items.{ends, onto, nth}
+use Rattle.steps.specs.Items.{onto}
 use Rattle.byte_numbers.specs.Bytes.{num_at, bytes_of}
 use Rattle.byte_numbers.proofs.Laws.{stored_other, num_stored}
 use Rattle.record.specs.declared.Header.{Header}

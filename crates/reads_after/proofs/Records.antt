@@ -8,7 +8,7 @@ use lib.Dec.{eqb}
 use borrow.Author.Tests.{eqb-true, eqb-false}
 use Rattle.steps.specs.Choice.{pick}
 use Rattle.steps.proofs.Choice.{never, pick_any, pick_by, pick_eq, pick_true}
-use Rattle.steps.specs.Items.{Item, ends}
+use Rattle.steps.specs.Items.{Item}
 use Rattle.record.specs.declared.Header.{Header}
 use Rattle.record.specs.declared.Header.TheVariants.{Record, Cut, End}
 use Rattle.record.specs.Record.{header_at}

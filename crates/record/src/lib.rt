@@ -1,10 +1,12 @@
 // The record at a place of the stream: type u16, size u16, body.
+#![tactic(auto)]
+
 ghost use Rattle.std.specs.Prelude.{◌≡◌};
 ghost use Rattle.record.specs.Record.{header_at};
 
 // What stands at a place: a record whose body lies from `at + 4` up to `end`; a header or body that passes the stream's end, or a body over
 // 8,224 bytes (refusal 2); or the end of the stream itself.
-#[derive(Drop)]
+#[derive(Clone, Copy)]
 pub enum Header {
     Record { kind: u16, size: usize, end: usize },
     Cut,

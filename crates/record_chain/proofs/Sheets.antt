@@ -114,6 +114,7 @@ apart_nth (z ∷ l) zero zero x y a first first d = λ e. d refl
 apart_nth (z ∷ l) zero (suc n) x y a first (next j) d = every_nth (λ y. x.position ≡ y.position → ⊥) a.0 j
 apart_nth (z ∷ l) (suc m) zero x y a (next i) first d = λ e. every_nth (λ y. z.position ≡ y.position → ⊥) a.0 i (sym e)
 apart_nth (z ∷ l) (suc m) (suc n) x y a (next i) (next j) d = apart_nth l m n x y a.1 i j (λ e. d (ap suc e))
+apart_nth [] m n x y a x6 _ d = elim x6 [ ]
 
 pub sheets_stand : SheetsStand
 sheets_stand s u g h n x i =

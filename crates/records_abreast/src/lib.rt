@@ -1,4 +1,6 @@
 // Two sheets side by side: records that say the same in both are passed over, one after the other.
+#![tactic(auto)]
+
 ghost use Rattle.std.specs.Prelude.{true, ◌+◌, ◌*◌, ◌≤◌, ◌<◌, length};
 ghost use Rattle.cell.specs.Cells.{shape_of, field_of};
 ghost use Rattle.value.specs.declared.Field.TheVariants.{TextIndex, StoredResult};
@@ -11,13 +13,13 @@ use record::Header;
 use value::{CellValue, FormulaResult};
 
 // Where the first stream goes on, and the second.
-#[derive(Drop)]
+#[derive(Clone, Copy)]
 pub struct Both {
     pub first: Place,
     pub second: Place,
 }
 
-#[derive(Drop)]
+#[derive(Clone, Copy)]
 struct Pair {
     first: usize,
     second: usize,

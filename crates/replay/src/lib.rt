@@ -1,5 +1,7 @@
 // Replay of a journal, forwards and backwards: one entry after the other, until one is refused. The addresses of many entries are looked up in one pass,
 // so that a forged journal can't drive the time up. The journal is not written.
+#![tactic(auto)]
+
 ghost use Rattle.std.specs.Prelude.{◌≡◌, ◌+◌, ◌-◌, ◌*◌, ◌≤◌, ◌<◌, length};
 ghost use Rattle.correction.specs.Parts.{AimWithin};
 ghost use Rattle.correction.specs.Correction.{stream_after};
@@ -14,13 +16,13 @@ use correction::{Aim, Target};
 use replay_entry::{Replayed, Step};
 use workbook::Checked;
 
-#[derive(Drop)]
+#[derive(Clone, Copy)]
 pub enum Done {
     Made,
     Stopped(u8),
 }
 
-#[derive(Drop)]
+#[derive(Clone, Copy)]
 pub enum Run {
     All,
     Stopped { number: u8, entry: u32 },

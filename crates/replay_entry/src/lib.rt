@@ -1,4 +1,6 @@
 // One entry of a journal, made again or undone: a number for a value field, or a refusal. The run over all entries is in the crate `replay`.
+#![tactic(auto)]
+
 ghost use Rattle.std.specs.Prelude.{◌≡◌, ◌+◌, ◌≤◌, length};
 ghost use Rattle.value.specs.Value.{width_of};
 ghost use Rattle.correction.specs.Parts.{AimWithin};
@@ -11,7 +13,7 @@ use new_value::Plan;
 use value::Field;
 
 // What an entry comes to: a number for a value field, or a refusal.
-#[derive(Drop)]
+#[derive(Clone, Copy)]
 pub enum Step {
     Write {
         kind: Field,
@@ -22,7 +24,7 @@ pub enum Step {
 }
 
 // All entries are made; a refusal before the first of them; or the refusal of one, by its number, with the entry's number in the journal.
-#[derive(Drop)]
+#[derive(Clone, Copy)]
 pub enum Replayed {
     All(u32),
     Refused { number: u8, offset: usize },

@@ -1,5 +1,7 @@
 // What stands in segments: the body of a record, and on through the CONTINUEs right after it.
 // The functions read on from a cursor inside the stream; whoever has found a whole record has one. `number` is the refusal that a break gets.
+#![tactic(auto)]
+
 ghost use Rattle.std.specs.Prelude.{◌≡◌, ◌+◌, ◌-◌, ◌*◌, ◌/◌, ◌≤◌, true, length};
 ghost use Rattle.byte_numbers.specs.Bytes.{num_at};
 ghost use Rattle.segments.specs.Segments.{list_of, continues, next_segment, filled, need, width_of, room, items};
@@ -8,7 +10,7 @@ ghost use Rattle.segments.specs.Parts.{Inside, ends, moved, roomed, Passes, Fits
 use record::Header;
 
 // A place in a segment: the segment's header, the next byte, the segment's end.
-#[derive(Drop)]
+#[derive(Clone, Copy)]
 pub struct Cursor {
     pub seg: usize,
     pub at: usize,
@@ -16,21 +18,21 @@ pub struct Cursor {
 }
 
 // Where the reading has come to.
-#[derive(Drop)]
+#[derive(Clone, Copy)]
 pub enum Moved {
     To(Cursor),
     Refused { number: u8, offset: usize },
 }
 
 // An item's width, and where it stands.
-#[derive(Drop)]
+#[derive(Clone, Copy)]
 pub enum Room {
     At { width: usize, place: Cursor },
     Refused { number: u8, offset: usize },
 }
 
 // How many items are taken at once, and their bytes.
-#[derive(Drop)]
+#[derive(Clone, Copy)]
 pub struct Fit {
     pub count: usize,
     pub bytes: usize,

@@ -7,7 +7,7 @@ use Rattle.cadence.specs.declared.Cadence.{Cadence}
 use Rattle.cadence.specs.declared.Position.{Position}
 use Rattle.cadence.specs.declared.Start.{Start}
 use Rattle.cadence.specs.declared.NextPair.{NextPair}
-use Rattle.cadence.specs.declared.NextPair.TheVariants as nextPair
+use Rattle.cadence.specs.declared.NextPair.TheVariants as next_pair
 use Rattle.cadence.specs.Steps.{next_pair_of}
 use Rattle.session_answers.specs.declared.Profile.{Profile}
 use Rattle.session_answers.specs.declared.Pair as declared
@@ -35,7 +35,7 @@ pub end_by : {a x : NextPair} {y : Step} → a ≡ x → y ≡ step_seen x → y
 end_by h g = g ∙ ap step_seen (sym h)
 
 -- a step, put together from its pair
-pub step_by : {a : NextPair} {x : Cadence} {p : Position} {y : declared.Pair} → a ≡ nextPair.Pair x p → y ≡ pair_seen x
+pub step_by : {a : NextPair} {x : Cadence} {p : Position} {y : declared.Pair} → a ≡ next_pair.Pair x p → y ≡ pair_seen x
     → ◌≡◌ {A = Step} (record { kind = y.kind; elapsed = y.ticks; turned = y.turns; cadence = y.cadence; ticks = p.earlier.ticks; turns = p.earlier.turns; seconds = p.earlier.seconds; at = p.cells.at; part = p.cells.part; level = p.cells.level }) (step_seen a)
 step_by {a} {x} {p} {y} h g =
     (λ j. record { kind = (g j).kind; elapsed = (g j).ticks; turned = (g j).turns; cadence = (g j).cadence; ticks = p.earlier.ticks; turns = p.earlier.turns; seconds = p.earlier.seconds; at = p.cells.at; part = p.cells.part; level = p.cells.level })

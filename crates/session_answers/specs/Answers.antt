@@ -8,7 +8,7 @@ use Rattle.cadence.specs.declared.Position.{Position}
 use Rattle.cadence.specs.declared.Start.{Start}
 use Rattle.cadence.specs.declared.Start.TheVariants as start
 use Rattle.cadence.specs.declared.NextPair.{NextPair}
-use Rattle.cadence.specs.declared.NextPair.TheVariants as nextPair
+use Rattle.cadence.specs.declared.NextPair.TheVariants as next_pair
 use Rattle.session_answers.specs.declared.Profile.{Profile}
 use Rattle.session_answers.specs.declared.Pair as declared
 use Rattle.session_answers.specs.declared.Pairs.{Pairs}
@@ -48,7 +48,7 @@ position_of ticks turns seconds at part level columns = record {
 }
 
 abbrev pub step_seen : NextPair → Step
-step_seen (nextPair.Pair a p) = record {
+step_seen (next_pair.Pair a p) = record {
   kind = (pair_seen a).kind;
   elapsed = (pair_seen a).ticks;
   turned = (pair_seen a).turns;
@@ -60,4 +60,4 @@ step_seen (nextPair.Pair a p) = record {
   part = p.cells.part;
   level = p.cells.level;
 }
-step_seen nextPair.End = record { kind = 0; elapsed = 0; turned = 0; cadence = 0; ticks = 0; turns = 0; seconds = 0; at = 0; part = 0; level = 0 }
+step_seen next_pair.End = record { kind = 0; elapsed = 0; turned = 0; cadence = 0; ticks = 0; turns = 0; seconds = 0; at = 0; part = 0; level = 0 }

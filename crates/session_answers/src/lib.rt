@@ -1,4 +1,6 @@
 // The profile and the cadence in plain numbers, as C sees them. A refusal's number is 0 where there is none, and what isn't answered is 0.
+#![tactic(auto)]
+
 ghost use Rattle.std.specs.Prelude.{◌≡◌};
 ghost use Rattle.profile.specs.Profile.{profile_of};
 ghost use Rattle.cadence.specs.Cadence.{cadence_of};
@@ -11,7 +13,7 @@ use reading::Place;
 
 // How many rows and columns.
 #[repr(C)]
-#[derive(Drop)]
+#[derive(Clone, Copy)]
 pub struct Profile {
     pub number: u8,
     pub offset: usize,
@@ -21,7 +23,7 @@ pub struct Profile {
 
 // Two neighbouring rows, by kind: 0 refused, 1 a pause, 2 no cadence, 3 a cadence.
 #[repr(C)]
-#[derive(Drop)]
+#[derive(Clone, Copy)]
 pub struct Pair {
     pub number: u8,
     pub offset: usize,
@@ -33,7 +35,7 @@ pub struct Pair {
 
 // Where the pairs start: the first row, the place after it, how many columns.
 #[repr(C)]
-#[derive(Drop)]
+#[derive(Clone, Copy)]
 pub struct Pairs {
     pub number: u8,
     pub offset: usize,
@@ -48,7 +50,7 @@ pub struct Pairs {
 
 // The next pair, of kind 0 where they have ended; then its later row and the place after that.
 #[repr(C)]
-#[derive(Drop)]
+#[derive(Clone, Copy)]
 pub struct Step {
     pub kind: u8,
     pub elapsed: u16,

@@ -1,10 +1,12 @@
 // The slots by which the sheet list is held against the substreams, a window of 1,277,952 positions at a time: a pass over its BOFs and one over the sheets,
 // and one more over the BOFs where a slot is still full.
+#![tactic(auto)]
+
 ghost use Rattle.std.specs.Prelude.{◌≡◌, ◌<◌};
 ghost use Rattle.sheet_agreement.specs.Slots.{inside, code_of, marks, sooner, or_else};
 
 // Whether the sheet list and the substreams agree; if not, the offset of the first BOUNDSHEET or BOF at fault.
-#[derive(Drop)]
+#[derive(Clone, Copy)]
 pub enum Agreement {
     Agree,
     Disagree(usize),

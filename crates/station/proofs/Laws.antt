@@ -20,7 +20,7 @@ use Rattle.reading.specs.Reading.{listed_of}
 use Rattle.listing.specs.declared.Listed.{Listed}
 use Rattle.listing.specs.declared.Listed.TheVariants as listed
 use Rattle.listing.specs.declared.NextSheet.{NextSheet}
-use Rattle.listing.specs.declared.NextSheet.TheVariants as nextSheet
+use Rattle.listing.specs.declared.NextSheet.TheVariants as next_sheet
 use Rattle.listing.specs.Listing.{next_of, next_sheet_of}
 use Rattle.listing.proofs.Laws.{on_listed, listed_next, next_nearer}
 use Rattle.listing.proofs.SheetWalk.{FirstSheet, SheetsFrom, sheets_next, sheet_nearer}
@@ -97,7 +97,7 @@ unfolding cell_total
 total_none s = refl
 
 module _ (s : List ℕ) (p₀ n p : ℕ) (inv : AllCounted s p₀ n p) {r : NextSheet} (is : r ≡ next_sheet_of s p) where
-  module _ (h t w : ℕ) (v : Place) (m : ℕ) (e : r ≡ nextSheet.Sheet h t w v m) (k : ℕ) (all : k ≡ length (listed_from s v)) (few : k ≤ 16843009) where
+  module _ (h t w : ℕ) (v : Place) (m : ℕ) (e : r ≡ next_sheet.Sheet h t w v m) (k : ℕ) (all : k ≡ length (listed_from s v)) (few : k ≤ 16843009) where
     pub all_more : AllCounted s p₀ (n + k) m
     all_more =
         let f : FirstSheet s p h t w v m = subst (SheetsFrom s p) (sym is ∙ e) (sheets_next s p) in
@@ -109,7 +109,7 @@ module _ (s : List ℕ) (p₀ n p : ℕ) (inv : AllCounted s p₀ n p) {r : Next
     pub all_fit : length s ≤ 65536 → n + k < 2 ^ 64
     all_fit short = let j = sheet_nearer s p is h t w v m e in omega arith
 
-  pub all_done : r ≡ nextSheet.End → n ≡ cell_total s (sheets_from s p₀)
+  pub all_done : r ≡ next_sheet.End → n ≡ cell_total s (sheets_from s p₀)
   all_done h =
       let f : sheets_from s p ≡ [] = subst (SheetsFrom s p) (sym is ∙ h) (sheets_next s p) in
       let g : cell_total s (sheets_from s p) ≡ 0 = ap (cell_total s) f ∙ total_none s in
@@ -118,7 +118,7 @@ module _ (s : List ℕ) (p₀ n p : ℕ) (inv : AllCounted s p₀ n p) {r : Next
 pub ruleset all_laws = (all_start, all_more, all_done, sheet_nearer)
 
 -- ---- the sheets' numbers stay below the place in the list
-module _ (s : List ℕ) (n p : ℕ) (low : n ≤ p) {r : NextSheet} (is : r ≡ next_sheet_of s p) (h t w : ℕ) (v : Place) (m : ℕ) (e : r ≡ nextSheet.Sheet h t w v m) where
+module _ (s : List ℕ) (n p : ℕ) (low : n ≤ p) {r : NextSheet} (is : r ≡ next_sheet_of s p) (h t w : ℕ) (v : Place) (m : ℕ) (e : r ≡ next_sheet.Sheet h t w v m) where
   pub sheet_low : n + 1 ≤ m
   sheet_low = let j = sheet_nearer s p is h t w v m e in omega arith
 

@@ -1,13 +1,15 @@
 // The program: what a workbook stream on standard input says, a line for each sheet and each cell.
-ghost use Rattle.std.specs.Prelude.{◌≡◌, ◌+◌, ◌≤◌, ◌<◌, length};
+#![tactic(auto)]
+
+ghost use Rattle.std.specs.Prelude.{◌≡◌, ◌+◌, ◌≤◌, ◌<◌, length, IfOk};
 ghost use Rattle.globals.specs.Sheets.{sheets_from};
 ghost use Rattle.reading.specs.Cells.{listed_from};
 ghost use Rattle.station.specs.Totals.{cell_total};
 
 use cell::Cell;
-use libc::{STDIN_FILENO, STDOUT_FILENO};
 use listing::{Listed, NextSheet};
 use reading::Place;
+use std::io::{Print, Read, Result, Stdin, Stdout};
 use value::{CellValue, FormulaResult};
 use workbook::Answer;
 
@@ -191,53 +193,53 @@ fn usize_as_u64(x: usize) -> u64
 // ---- the walks over sheets and cells
 
 // The first bytes of the buffer, written out.
-fn write_part(out: &[u8], size: usize)
+fn write_part(to: Stdout, out: &[u8], size: usize) -> Result<()>
     requires { size ≤ length out.now }
 {
-    io::write_all(STDOUT_FILENO, &out[..size]);
+    to.write_all(&out[..size])
 }
 
-fn write_out(out: &[u8; 4096], at: usize)
+fn write_out(to: Stdout, out: &[u8; 4096], at: usize) -> Result<()>
     requires { at ≤ 4096 }
 {
-    write_part(out, at);
+    write_part(to, out, at)
 }
 
 // Writes the buffer out where the next line might not fit.
-fn room(out: &[u8; 4096], at: usize) -> usize
+fn room(to: Stdout, out: &[u8; 4096], at: usize) -> Result<usize>
     requires { at ≤ 4096 }
-    ensures { result + 96 ≤ 4096 }
+    ensures { IfOk result (λ start. start + 96 ≤ 4096) }
 {
     if at <= 4000 {
-        return at;
+        return Ok(at);
     }
-    write_out(out, at);
-    0
+    write_out(to, out, at)?;
+    Ok(0)
 }
 
-fn put_cells(out: &mut [u8; 4096], at: usize, s: &[u8], from: Place) -> usize
+fn put_cells(to: Stdout, out: &mut [u8; 4096], at: usize, s: &[u8], from: Place) -> Result<usize>
     requires { at ≤ 4096 }
-    ensures { result ≤ 4096 }
+    ensures { IfOk result (λ after. after ≤ 4096) }
 {
     let mut end = at;
     let mut v = from;
     loop {
         match listing::next_cell(s, v) {
             Listed::Cell { cell, next } => {
-                let start = room(out, end);
+                let start = room(to, out, end)?;
                 end = put_cell(out, start, cell);
                 v = next;
             }
             Listed::End => {
-                return end;
+                return Ok(end);
             }
         }
     }
 }
 
-fn put_sheets(out: &mut [u8; 4096], at: usize, s: &[u8], from: usize) -> usize
+fn put_sheets(to: Stdout, out: &mut [u8; 4096], at: usize, s: &[u8], from: usize) -> Result<usize>
     requires { (at ≤ 4096) × (length s.now ≤ 65536) }
-    ensures { result ≤ 4096 }
+    ensures { IfOk result (λ after. after ≤ 4096) }
 {
     let mut end = at;
     let mut n: u64 = 0;
@@ -251,14 +253,14 @@ fn put_sheets(out: &mut [u8; 4096], at: usize, s: &[u8], from: usize) -> usize
                 cells,
                 next,
             } => {
-                let start = room(out, end);
+                let start = room(to, out, end)?;
                 let line = put_sheet(out, start, n, listing::rows(s, cells));
-                end = put_cells(out, line, s, cells);
+                end = put_cells(to, out, line, s, cells)?;
                 n += 1;
                 p = next;
             }
             NextSheet::End => {
-                return end;
+                return Ok(end);
             }
         }
     }
@@ -310,36 +312,50 @@ fn count_all(s: &[u8], from: usize) -> u64
 
 // ---- the program
 
-fn print_refused(number: u8, offset: usize) {
+fn print_refused(to: Stdout, number: u8, offset: usize) -> Result<()> {
     let mut out = io::buffer();
     let end = put_refused(&mut out, number, offset);
-    write_out(&out, end);
+    write_out(to, &out, end)
 }
 
-fn print_sheets(s: &[u8], sheets: usize, strings: u32, from: usize)
+fn print_sheets(to: Stdout, s: &[u8], sheets: usize, strings: u32, from: usize) -> Result<()>
     requires { length s.now ≤ 65536 }
 {
     let mut out = io::buffer();
     let first = put_counts(&mut out, sheets, strings, count_all(s, from));
-    let end = put_sheets(&mut out, first, s, from);
-    write_out(&out, end);
+    let end = put_sheets(to, &mut out, first, s, from)?;
+    write_out(to, &out, end)
 }
 
-fn print(s: &[u8]) {
+fn print(to: Stdout, s: &[u8]) -> Result<()> {
     if 65536 < s.len() {
-        io::write_all(STDOUT_FILENO, b"too long\n");
-        return;
+        return to.write_all(b"too long\n");
     }
     match workbook::check(s) {
-        Answer::Refused { number, offset } => print_refused(number, offset),
+        Answer::Refused { number, offset } => print_refused(to, number, offset),
         Answer::Passed { sheets, strings } => {
-            print_sheets(s, sheets, strings, listing::first_sheet())
+            print_sheets(to, s, sheets, strings, listing::first_sheet())
         }
     }
 }
 
-fn main() {
+// Reads until the input ends or the buffer is full; how many bytes that were.
+fn read_full(input: &mut Stdin, into: &mut [u8]) -> Result<usize>
+    ensures { IfOk result (λ n. n ≤ length into.new) }
+{
+    let mut n: usize = 0;
+    while n < into.len() {
+        let more = input.read(&mut into[n..])?;
+        if more == 0 {
+            return Ok(n);
+        }
+        n += more;
+    }
+    Ok(n)
+}
+
+fn main(rt: HostRuntime) -> Result<()> {
     let mut input = [0u8; 65537];
-    let n = io::read_full(STDIN_FILENO, &mut input);
-    print(&input[..n]);
+    let n = read_full(&mut rt.stdin(), &mut input)?;
+    print(rt.stdout(), &input[..n])
 }

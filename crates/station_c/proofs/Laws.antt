@@ -19,7 +19,7 @@ use Rattle.strings.specs.declared.Fetched.{Fetched}
 use Rattle.listing.specs.Listing.{first_sheet}
 use Rattle.listing.specs.declared.Start.{Start}
 use Rattle.listing.specs.declared.NextSheet.{NextSheet}
-use Rattle.listing.specs.declared.NextSheet.TheVariants as nextSheet
+use Rattle.listing.specs.declared.NextSheet.TheVariants as next_sheet
 use Rattle.reading.specs.declared.Place.{Place}
 use Rattle.reading.specs.Reading.{name_at}
 use Rattle.compare.specs.declared.Side.{Side}
@@ -35,22 +35,22 @@ use Rattle.station_c.specs.declared.Filled.{Filled}
 use Rattle.station_c.specs.declared.Comparison.{Comparison}
 use Rattle.station_c.specs.declared.tables.FilledTable.{FilledTable}
 use Rattle.string_places.specs.declared.Filled as places
-use Rattle.pair.specs.Pair.{pair_correction_of, session_after, answer_of as pairAnswer}
+use Rattle.pair.specs.Pair.{pair_correction_of, session_after, answer_of as pair_answer}
 use Rattle.pair_answers.specs.declared.Answer as pairs
 use Rattle.pair_answers.specs.Answers.{answer_seen}
 use Rattle.cell_words.specs.declared.Filled as batch
-use Rattle.cell_words.specs.Batch.{Batch, filled_seen as batchSeen}
+use Rattle.cell_words.specs.Batch.{Batch, filled_seen as batch_seen}
 use Rattle.pair.specs.declared.Of.{Of}
 use Rattle.pair_answers.specs.Answers.{of_number}
 use Rattle.pair_compact.specs.declared.PairCompacted.{PairCompacted}
-use Rattle.pair_compact.specs.declared.PairCompacted.TheVariants as pairCompacted
+use Rattle.pair_compact.specs.declared.PairCompacted.TheVariants as pair_compacted
 use Rattle.station_c.specs.declared.NewSession.{NewSession}
 use Rattle.station_c.specs.Answers.{check_seen, judge_seen, correct_seen, fetch_seen, text_seen, sheet_seen, cells_seen, filled_seen, table_seen, compared_seen, compact_seen, pair_compact_seen}
 use Rattle.correction.specs.Correction as corrections
 use Rattle.journal.specs.Journal.{journalled_of, journal_after}
 use Rattle.pair_journal.specs.Journals.{pair_journalled_of, pair_journal_after}
 use Rattle.journal_answers.specs.declared.Answer as journals
-use Rattle.journal_answers.specs.Answers.{answer_seen as journalSeen}
+use Rattle.journal_answers.specs.Answers.{answer_seen as seen_in_journal}
 use Rattle.compact.specs.declared.Compacted.{Compacted}
 use Rattle.station_c.specs.declared.NewStream.{NewStream}
 
@@ -90,10 +90,10 @@ compact_told i h = h ∙ ap compact_seen (sym i)
 pub compact_seen_lem : {a r : Compacted} {y : NewStream} → r ≡ a → y ≡ compact_seen r → y ≡ compact_seen a
 compact_seen_lem i h = h ∙ ap compact_seen i
 
-pub session_written : {a : PairCompacted} (n : ℕ) → a ≡ pairCompacted.Written n → record { whose = 2; number = 0; offset = 0; written = n } ≡ pair_compact_seen a
+pub session_written : {a : PairCompacted} (n : ℕ) → a ≡ pair_compacted.Written n → record { whose = 2; number = 0; offset = 0; written = n } ≡ pair_compact_seen a
 session_written n i = ap pair_compact_seen (sym i)
 
-pub session_refused : {a : PairCompacted} (w : Of) (n o m : ℕ) → a ≡ pairCompacted.Refused w n o → m ≡ of_number w → record { whose = m; number = n; offset = o; written = 0 } ≡ pair_compact_seen a
+pub session_refused : {a : PairCompacted} (w : Of) (n o m : ℕ) → a ≡ pair_compacted.Refused w n o → m ≡ of_number w → record { whose = m; number = n; offset = o; written = 0 } ≡ pair_compact_seen a
 session_refused w n o m i e = (λ j. record { whose = e j; number = n; offset = o; written = 0 }) ∙ ap pair_compact_seen (sym i)
 
 pub session_seen : {a r : PairCompacted} {y : NewSession} → r ≡ a → y ≡ pair_compact_seen r → y ≡ pair_compact_seen a
@@ -106,7 +106,7 @@ pub cells_seen_lem : {a r x : Start} {y : Cells} → r ≡ a → r ≡ x → y �
 cells_seen_lem = seen cells_seen
 
 -- l is the name as the code has it
-pub sheet_seen_lem : (s : List ℕ) {a r : NextSheet} {h t w n : ℕ} {v : Place} {l : List ℕ} → r ≡ a → r ≡ nextSheet.Sheet h t w v n → l ≡ name_at s h
+pub sheet_seen_lem : (s : List ℕ) {a r : NextSheet} {h t w n : ℕ} {v : Place} {l : List ℕ} → r ≡ a → r ≡ next_sheet.Sheet h t w v n → l ≡ name_at s h
     → ◌≡◌ {A = Sheet} (record { ended = false; header = h; size = length l; width = w; kind = t; at = v.at; part = v.part; level = v.level; next = n }) (sheet_seen s a)
 sheet_seen_lem s {a} {r} {h} {t} {w} {n} {v} {l} i j k = seen (sheet_seen s) i j (ap (λ (m : List ℕ). record { ended = false; header = h; size = length m; width = w; kind = t; at = v.at; part = v.part; level = v.level; next = n }) k)
 
@@ -114,7 +114,7 @@ pub sheets_ended : (s : List ℕ) {a r x : NextSheet} {y : Sheet} → r ≡ a �
 sheets_ended s = seen (sheet_seen s)
 
 -- f is what the batch gave
-pub filled_seen_lem : (x : Batch) {f : batch.Filled} → f ≡ batchSeen x → ◌≡◌ {A = Filled} (record { cells = f.cells; ended = f.ended; at = f.place.at; part = f.place.part; level = f.place.level }) (filled_seen x)
+pub filled_seen_lem : (x : Batch) {f : batch.Filled} → f ≡ batch_seen x → ◌≡◌ {A = Filled} (record { cells = f.cells; ended = f.ended; at = f.place.at; part = f.place.part; level = f.place.level }) (filled_seen x)
 filled_seen_lem x i = ap (λ (g : batch.Filled). record { cells = g.cells; ended = g.ended; at = g.place.at; part = g.place.part; level = g.place.level }) i
 
 pub compared_seen_lem : {a r x : Compared} {y : Comparison} → r ≡ a → r ≡ x → y ≡ compared_seen x → y ≡ compared_seen a
@@ -128,16 +128,16 @@ table_seen_lem = seen table_seen
 
 -- the same over a template t
 module _ (t s : List ℕ) (n row column : ℕ) (v : NewValue) {w : NewValue} (made : w ≡ v) where
-  pub pair_seen_lem : {y : pairs.Answer} → y ≡ answer_seen (pairAnswer (pair_correction_of t s n row column w)) → y ≡ answer_seen (pairAnswer (pair_correction_of t s n row column v))
-  pair_seen_lem i = i ∙ ap (λ (m : NewValue). answer_seen (pairAnswer (pair_correction_of t s n row column m))) made
+  pub pair_seen_lem : {y : pairs.Answer} → y ≡ answer_seen (pair_answer (pair_correction_of t s n row column w)) → y ≡ answer_seen (pair_answer (pair_correction_of t s n row column v))
+  pair_seen_lem i = i ∙ ap (λ (m : NewValue). answer_seen (pair_answer (pair_correction_of t s n row column m))) made
 
   pub pair_left : {x : List ℕ} → x ≡ session_after s (pair_correction_of t s n row column w) → x ≡ session_after s (pair_correction_of t s n row column v)
   pair_left i = i ∙ ap (λ (m : NewValue). session_after s (pair_correction_of t s n row column m)) made
 
 -- ---- a journalled correction, of a value that was made
 module _ (s j : List ℕ) (n row column : ℕ) (v : NewValue) {w : NewValue} (made : w ≡ v) where
-  pub journal_seen : {y : journals.Answer} → y ≡ journalSeen (corrections.answer_of (journalled_of s 0 0 j n row column w)) → y ≡ journalSeen (corrections.answer_of (journalled_of s 0 0 j n row column v))
-  journal_seen i = i ∙ ap (λ (m : NewValue). journalSeen (corrections.answer_of (journalled_of s 0 0 j n row column m))) made
+  pub journal_seen : {y : journals.Answer} → y ≡ seen_in_journal (corrections.answer_of (journalled_of s 0 0 j n row column w)) → y ≡ seen_in_journal (corrections.answer_of (journalled_of s 0 0 j n row column v))
+  journal_seen i = i ∙ ap (λ (m : NewValue). seen_in_journal (corrections.answer_of (journalled_of s 0 0 j n row column m))) made
 
   pub journal_stream : {x : List ℕ} → x ≡ corrections.stream_after s (journalled_of s 0 0 j n row column w) → x ≡ corrections.stream_after s (journalled_of s 0 0 j n row column v)
   journal_stream i = i ∙ ap (λ (m : NewValue). corrections.stream_after s (journalled_of s 0 0 j n row column m)) made
@@ -147,8 +147,8 @@ module _ (s j : List ℕ) (n row column : ℕ) (v : NewValue) {w : NewValue} (ma
 
   -- and over a template t
   module _ (t : List ℕ) where
-    pub pair_journal_seen : {y : pairs.Answer} → y ≡ answer_seen (pairAnswer (pair_journalled_of t s j n row column w)) → y ≡ answer_seen (pairAnswer (pair_journalled_of t s j n row column v))
-    pair_journal_seen i = i ∙ ap (λ (m : NewValue). answer_seen (pairAnswer (pair_journalled_of t s j n row column m))) made
+    pub pair_journal_seen : {y : pairs.Answer} → y ≡ answer_seen (pair_answer (pair_journalled_of t s j n row column w)) → y ≡ answer_seen (pair_answer (pair_journalled_of t s j n row column v))
+    pair_journal_seen i = i ∙ ap (λ (m : NewValue). answer_seen (pair_answer (pair_journalled_of t s j n row column m))) made
 
     pub pair_journal_stream : {x : List ℕ} → x ≡ session_after s (pair_journalled_of t s j n row column w) → x ≡ session_after s (pair_journalled_of t s j n row column v)
     pair_journal_stream i = i ∙ ap (λ (m : NewValue). session_after s (pair_journalled_of t s j n row column m)) made

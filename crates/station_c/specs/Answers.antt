@@ -21,7 +21,7 @@ use Rattle.listing.specs.Listing.{first_sheet}
 use Rattle.listing.specs.declared.Start.{Start}
 use Rattle.listing.specs.declared.Start.TheVariants as start
 use Rattle.listing.specs.declared.NextSheet.{NextSheet}
-use Rattle.listing.specs.declared.NextSheet.TheVariants as nextSheet
+use Rattle.listing.specs.declared.NextSheet.TheVariants as next_sheet
 use Rattle.compare.specs.declared.Side.{Side}
 use Rattle.compare.specs.declared.Side.TheVariants as side
 use Rattle.compare.specs.declared.Compared.{Compared}
@@ -33,7 +33,7 @@ use Rattle.compact.specs.declared.Compacted.{Compacted}
 use Rattle.compact.specs.declared.Compacted.TheVariants as compacted
 use Rattle.pair_answers.specs.Answers.{of_number}
 use Rattle.pair_compact.specs.declared.PairCompacted.{PairCompacted}
-use Rattle.pair_compact.specs.declared.PairCompacted.TheVariants as pairCompacted
+use Rattle.pair_compact.specs.declared.PairCompacted.TheVariants as pair_compacted
 use Rattle.station_c.specs.declared.NewStream.{NewStream}
 use Rattle.station_c.specs.declared.NewSession.{NewSession}
 use Rattle.station_c.specs.declared.SharedString.{SharedString}
@@ -81,8 +81,8 @@ compact_seen (compacted.Written n) = record { number = 0; offset = 0; written = 
 compact_seen (compacted.Refused n o) = record { number = n; offset = o; written = 0 }
 
 abbrev pub pair_compact_seen : PairCompacted → NewSession
-pair_compact_seen (pairCompacted.Written n) = record { whose = 2; number = 0; offset = 0; written = n }
-pair_compact_seen (pairCompacted.Refused w n o) = record { whose = of_number w; number = n; offset = o; written = 0 }
+pair_compact_seen (pair_compacted.Written n) = record { whose = 2; number = 0; offset = 0; written = n }
+pair_compact_seen (pair_compacted.Refused w n o) = record { whose = of_number w; number = n; offset = o; written = 0 }
 
 -- the next string from a place on: the place stays where there is none, or no room for it
 abbrev pub text_seen : Cursor → NextString → SharedString
@@ -96,7 +96,7 @@ cells_seen (start.Refused n o) = record { number = n; offset = o; at = 0; part =
 
 -- a sheet's name starts 12 bytes after its BOUNDSHEET's header
 abbrev pub sheet_seen : List ℕ → NextSheet → Sheet
-sheet_seen s (nextSheet.Sheet h t w v n) = record {
+sheet_seen s (next_sheet.Sheet h t w v n) = record {
   ended = false;
   header = h;
   size = length (name_at s h);
@@ -107,7 +107,7 @@ sheet_seen s (nextSheet.Sheet h t w v n) = record {
   level = v.level;
   next = n;
 }
-sheet_seen s nextSheet.End = record { ended = true; header = 0; size = 0; width = 0; kind = 0; at = 0; part = 0; level = 0; next = 0 }
+sheet_seen s next_sheet.End = record { ended = true; header = 0; size = 0; width = 0; kind = 0; at = 0; part = 0; level = 0; next = 0 }
 
 -- a new value by its kind: 0 a number, 1 a text index, 2 a truth, else an error code
 unfoldable pub new_value : ℕ → Float → ℕ → ℕ → NewValue

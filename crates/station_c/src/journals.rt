@@ -1,11 +1,11 @@
 // The journal of corrections and its replay, as C functions: what the crate `journal_answers` answers. The archive has the C functions of this crate alone.
 ghost use Rattle.std.specs.Prelude.{◌≡◌, length};
-ghost use Rattle.correction.specs.Correction.{answer_of as correctedOf, stream_after};
+ghost use Rattle.correction.specs.Correction.{answer_of as corrected_of, stream_after};
 ghost use Rattle.journal.specs.Entries.{count_in};
 ghost use Rattle.journal.specs.Journal.{start_of, start_answer, started_journal, journalled_of, journal_after};
 ghost use Rattle.replay_entry.specs.Replay.{replay_of, stream_replayed, answer_replayed};
 ghost use Rattle.pair.specs.Pair.{answer_of, session_after};
-ghost use Rattle.pair_journal.specs.Journals.{pair_start_of, start_answer as pairStartAnswer, journal_started, pair_journalled_of, pair_journal_after, pair_replay_of, session_replayed, pair_replay_answer};
+ghost use Rattle.pair_journal.specs.Journals.{pair_start_of, start_answer as pair_start_answer, journal_started, pair_journalled_of, pair_journal_after, pair_replay_of, session_replayed, pair_replay_answer};
 ghost use Rattle.pair_answers.specs.Answers.{answer_seen as pair_seen};
 ghost use Rattle.journal_answers.specs.Answers.{answer_seen, replay_seen, pair_replay_seen};
 ghost use Rattle.station_c.specs.Answers.{new_value};
@@ -33,7 +33,7 @@ pub extern "C" fn station_journal_correct(
     index: u32,
     byte: u8,
 ) -> Answer
-    ensures value { result ≡ answer_seen (correctedOf (journalled_of s.old 0 0 journal.old sheet row column (new_value kind number index byte))) }
+    ensures value { result ≡ answer_seen (corrected_of (journalled_of s.old 0 0 journal.old sheet row column (new_value kind number index byte))) }
     ensures s_after { s.new ≡ stream_after s.old (journalled_of s.old 0 0 journal.old sheet row column (new_value kind number index byte)) }
     ensures journal_after { journal.new ≡ journal_after s.old journal.old sheet row column (new_value kind number index byte) (journalled_of s.old 0 0 journal.old sheet row column (new_value kind number index byte)) }
 {
@@ -56,7 +56,7 @@ pub extern "C" fn station_pair_journal_start(
     session: &[u8],
     journal: &mut [u8],
 ) -> pair_answers::Answer
-    ensures value { result ≡ pair_seen (pairStartAnswer (pair_start_of template.now session.now (length journal.old))) }
+    ensures value { result ≡ pair_seen (pair_start_answer (pair_start_of template.now session.now (length journal.old))) }
     ensures journal_after { journal.new ≡ journal_started session.now journal.old (pair_start_of template.now session.now (length journal.old)) }
 {
     journal_answers::pair_start(template, session, journal)

@@ -1,4 +1,6 @@
 // The five questions as C functions. Each is defined for every argument; a refusal's number is 0 where there is none, and what isn't answered is 0.
+#![tactic(auto)]
+
 mod compacted;
 mod comparisons;
 mod journals;
@@ -15,7 +17,7 @@ ghost use Rattle.reading.specs.Cells.{listed_from};
 ghost use Rattle.reading.specs.Reading.{rows_of};
 ghost use Rattle.fetch.specs.Fetch.{answer_of, buffer_after};
 ghost use Rattle.fetch.specs.Strings.{next_string_of, next_buffer};
-ghost use Rattle.correction.specs.Correction.{correction_of, answer_of as correctedOf, stream_after};
+ghost use Rattle.correction.specs.Correction.{correction_of, answer_of as corrected_of, stream_after};
 ghost use Rattle.station_c.specs.Answers.{check_seen, judge_seen, correct_seen, fetch_seen, text_seen, sheet_seen, cells_seen, filled_seen, new_value};
 ghost use Rattle.cell_words.specs.Batch.{filled_from};
 
@@ -29,7 +31,7 @@ use workbook::Checked;
 
 // How many sheets and strings, and the places before the first sheet and the first string.
 #[repr(C)]
-#[derive(Drop)]
+#[derive(Clone, Copy)]
 pub struct Check {
     pub number: u8,
     pub offset: usize,
@@ -42,7 +44,7 @@ pub struct Check {
 }
 
 #[repr(C)]
-#[derive(Drop)]
+#[derive(Clone, Copy)]
 pub struct Answer {
     pub number: u8,
     pub offset: usize,
@@ -50,7 +52,7 @@ pub struct Answer {
 
 // A string's units are at the front of the buffer.
 #[repr(C)]
-#[derive(Drop)]
+#[derive(Clone, Copy)]
 pub struct Units {
     pub number: u8,
     pub offset: usize,
@@ -59,7 +61,7 @@ pub struct Units {
 
 // How many words were written and whether there are more; or the refusal's number, not 0, its offset, and whose it is: 1 the first stream's, 2 the second's.
 #[repr(C)]
-#[derive(Drop)]
+#[derive(Clone, Copy)]
 pub struct Comparison {
     pub number: u8,
     pub which: u8,
@@ -70,7 +72,7 @@ pub struct Comparison {
 
 // How many bytes the new stream has, which is at the front of the buffer.
 #[repr(C)]
-#[derive(Drop)]
+#[derive(Clone, Copy)]
 pub struct NewStream {
     pub number: u8,
     pub offset: usize,
@@ -79,7 +81,7 @@ pub struct NewStream {
 
 // The same of a session over its template, with whose refusal it is; 2 where it is written.
 #[repr(C)]
-#[derive(Drop)]
+#[derive(Clone, Copy)]
 pub struct NewSession {
     pub whose: u8,
     pub number: u8,
@@ -89,7 +91,7 @@ pub struct NewSession {
 
 // The next string: its units are at the front of the buffer; 12 where that has fewer units than the string. The place after it.
 #[repr(C)]
-#[derive(Drop)]
+#[derive(Clone, Copy)]
 pub struct SharedString {
     pub ended: bool,
     pub number: u8,
@@ -102,7 +104,7 @@ pub struct SharedString {
 
 // A sheet: its BOUNDSHEET, 12 bytes after whose header its name starts, the name's bytes, the bytes of a character, its type, where its cells start, and the place after it.
 #[repr(C)]
-#[derive(Drop)]
+#[derive(Clone, Copy)]
 pub struct Sheet {
     pub ended: bool,
     pub header: usize,
@@ -117,7 +119,7 @@ pub struct Sheet {
 
 // Where a listing starts.
 #[repr(C)]
-#[derive(Drop)]
+#[derive(Clone, Copy)]
 pub struct Cells {
     pub number: u8,
     pub offset: usize,
@@ -128,7 +130,7 @@ pub struct Cells {
 
 // So many cells were written; the listing ended, or goes on at the place.
 #[repr(C)]
-#[derive(Drop)]
+#[derive(Clone, Copy)]
 pub struct Filled {
     pub cells: usize,
     pub ended: bool,
@@ -376,7 +378,7 @@ pub extern "C" fn station_correct(
     index: u32,
     byte: u8,
 ) -> Answer
-    ensures value { result ≡ correct_seen (correctedOf (correction_of s.old 0 0 sheet row column (new_value kind number index byte))) }
+    ensures value { result ≡ correct_seen (corrected_of (correction_of s.old 0 0 sheet row column (new_value kind number index byte))) }
     ensures s_after { s.new ≡ stream_after s.old (correction_of s.old 0 0 sheet row column (new_value kind number index byte)) }
 {
     match correction::correct(s, sheet, row, column, new_value(kind, number, index, byte)) {

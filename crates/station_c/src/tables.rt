@@ -8,7 +8,7 @@ use string_places::Filled;
 
 // Of how many strings the table has the places.
 #[repr(C)]
-#[derive(Drop)]
+#[derive(Clone, Copy)]
 pub struct FilledTable {
     pub number: u8,
     pub offset: usize,

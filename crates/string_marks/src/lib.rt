@@ -1,5 +1,7 @@
 // Marks on a table of shared strings, so that any string is found by few steps. They stand at even distances in bytes: however long the strings are and however many
 // segments they have, little lies between a mark and the strings after it. A string that is longer than that distance ends at a mark, where a link tells of its characters.
+#![tactic(auto)]
+
 ghost use Rattle.std.specs.Prelude.{◌≡◌, ◌+◌, ◌-◌, ◌*◌, ◌≤◌, ◌<◌, length};
 ghost use Rattle.segments.specs.Parts.{Inside};
 ghost use Rattle.strings.specs.Table.{places_of, place_of};
@@ -9,7 +11,7 @@ use record::Header;
 use segments::{Cursor, Moved};
 
 // So many strings were passed, the last of them with so many bytes; the next is looked for at the place.
-#[derive(Drop)]
+#[derive(Clone, Copy)]
 pub struct Passed {
     count: usize,
     place: Cursor,

@@ -11,7 +11,7 @@ use Rattle.byte_numbers.specs.Bytes.{u16_at, u32_at}
 use Rattle.segments.specs.declared.Cursor.{Cursor}
 use Rattle.segments.specs.Segments.{Got, got, refused, list_of}
 use Rattle.segments.specs.Parts.{Inside, Passes, stored}
-use Rattle.strings.specs.Table.{strings, first, table_of as tableRead, places_of}
+use Rattle.strings.specs.Table.{strings, first, table_of as table_read, places_of}
 use Rattle.strings.proofs.Local.{right}
 use Rattle.strings.proofs.Laws.{strings_count}
 use Rattle.globals.specs.declared.Globals.{Globals}
@@ -54,9 +54,9 @@ module _ (s : List ℕ) (p n : ℕ) (st : Stands s p n) (some : n ≡ 0 → ⊥)
   end_at = p + 4 + u16_at s (p + 2)
 
   pub whole_table : Whole s p end_at n
-  whole_table = go (tableRead s p end_at) refl st.count
+  whole_table = go (table_read s p end_at) refl st.count
     where
-      go : (x : Got (List Cursor)) → tableRead s p end_at ≡ x → length (list_of x) ≡ n → Whole s p end_at n
+      go : (x : Got (List Cursor)) → table_read s p end_at ≡ x → length (list_of x) ≡ n → Whole s p end_at n
       go (got l c) q k =
           let r = right s p end_at l c q in
           let o = r.long in

@@ -1,4 +1,6 @@
 // The places of the shared strings, kept in a lent table of 32-bit numbers; and a string fetched through such a table.
+#![tactic(auto)]
+
 ghost use Rattle.std.specs.Prelude.{◌≡◌, ◌+◌, ◌-◌, ◌*◌, ◌≤◌, ◌<◌, length, set, replicate};
 ghost use Rattle.record.specs.Record.{header_at};
 ghost use Rattle.segments.specs.Segments.{list_of};
@@ -17,7 +19,7 @@ use strings::Fetched;
 use workbook::Checked;
 
 // The answer to a filling: of how many strings the table has the places.
-#[derive(Drop)]
+#[derive(Clone, Copy)]
 pub enum Filled {
     Strings(u32),
     Refused { number: u8, offset: usize },

@@ -1,5 +1,7 @@
 // The shared string table: an SST and the CONTINUEs right after it.
 // A crate above has read the SST's record and found it whole: p is its header, e its end. So the functions may require that both lie in the stream.
+#![tactic(auto)]
+
 ghost use Rattle.std.specs.Prelude.{◌≡◌, ◌+◌, ◌≤◌, ◌<◌, length};
 ghost use Rattle.byte_numbers.specs.Bytes.{byte_at};
 ghost use Rattle.segments.specs.Parts.{Inside, ends, moved, Passes};
@@ -9,7 +11,7 @@ ghost use Rattle.strings.specs.Parts.{head_read, next_string, Plain};
 use segments::{Cursor, Moved};
 
 // A string's head: its characters and their width, its runs, its phonetic bytes.
-#[derive(Drop)]
+#[derive(Clone, Copy)]
 pub struct Head {
     pub chars: usize,
     pub width: usize,
@@ -18,21 +20,21 @@ pub struct Head {
 }
 
 // A head, and where its string's characters start.
-#[derive(Drop)]
+#[derive(Clone, Copy)]
 pub enum HeadRead {
     Whole { head: Head, chars: Cursor },
     Refused { number: u8, offset: usize },
 }
 
 // The answer on a table: how many strings it has, and where it ends.
-#[derive(Drop)]
+#[derive(Clone, Copy)]
 pub enum Strings {
     Table { strings: u32, end: usize },
     Refused { number: u8, offset: usize },
 }
 
 // The answer to a fetch: how many units were written.
-#[derive(Drop)]
+#[derive(Clone, Copy)]
 pub enum Fetched {
     Units(usize),
     Refused { number: u8, offset: usize },

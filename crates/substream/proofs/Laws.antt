@@ -18,7 +18,7 @@ use Rattle.record.proofs.Laws.{Whole, whole}
 use Rattle.cell.specs.declared.Judged.{Judged}
 use Rattle.cell.specs.declared.Judged.TheVariants as judged
 use Rattle.cell.specs.declared.Shape.TheVariants.{FORMULA}
-use Rattle.cell.specs.Cells.{shape_of, length_at, count_of, judged as judgedOf, judge_of}
+use Rattle.cell.specs.Cells.{shape_of, length_at, count_of, judged as judged_of, judge_of}
 use Rattle.cell.specs.Parts.{formula_sized}
 use Rattle.cell.proofs.Sizes.{formula_shape}
 use Rattle.cell.proofs.Judging.{formula_unsized, result_room, formula_value, formula_passed}
@@ -43,7 +43,7 @@ use Rattle.substream.specs.Substream.{past, past_parent, version_at, inner_bof, 
 -- ---- from an answer to the definition that goes by it
 module _ (s : List ℕ) (k u : ℕ) (v : Here) (t z e : ℕ) (y : Step) where
   formula_in : formula_record s v z e ≡ record_in s 0x0010 u v 0x0006 z e
-  unfolding record_in formula_record judge_of judgedOf shape_of pick
+  unfolding record_in formula_record judge_of judged_of shape_of pick
   formula_in = refl
 
   pub in_formula : k ≡ 0x0010 → t ≡ 0x0006 → y ≡ formula_record s v z e → y ≡ record_in s k u v t z e
@@ -80,7 +80,7 @@ by_header s k u v y i j g = g ∙ ap (on_header s k u v) (sym j ∙ i)
 -- ---- a cell record that passes
 -- a FORMULA that passes has its stored result in its body
 formula_size : (s : List ℕ) (at z u n : ℕ) → judge_of s FORMULA at z u ≡ judged.Passed n → 22 ≤ z
-unfolding judge_of judgedOf pick
+unfolding judge_of judged_of pick
 formula_size s at z u n h =
     pick_by (λ (x : Judged). x ≡ judged.Passed n → 22 ≤ z) (eqb (count_of FORMULA s at z) 0) (λ _ i. never (cc))
     (λ q _. pick_by (λ (k : ℕ). eqb k 0 ≡ false → 22 ≤ z) (leb (22 + length_at s (at + 8)) z) (λ l _. let m = leb-true (22 + length_at s (at + 8)) z l in omega arith) (λ _ j. never (cc)) q) h

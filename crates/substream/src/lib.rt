@@ -1,5 +1,7 @@
 // The records of one substream after the globals: a worksheet, a chart or a macro sheet. Called by the check of the stream, which has judged the
 // size and kind of the substream's BOF.
+#![tactic(auto)]
+
 ghost use Rattle.std.specs.Prelude.{◌≡◌, ◌+◌, ◌≤◌, length};
 ghost use Rattle.text_result.specs.TextResult.{text_of};
 ghost use Rattle.substream.specs.Substream.{inner_bof, other_record, dimensions_fit, dimensions_record, on_text, record_in, step_of, substream_in};
@@ -10,14 +12,14 @@ use record::Header;
 use segments::Moved;
 
 // Where the next record stands, and whether a CONTINUE there would have no parent.
-#[derive(Drop)]
+#[derive(Clone, Copy)]
 pub struct Here {
     pub at: usize,
     pub orphan: bool,
 }
 
 // What the record leads to: on to the next, into the substream whose BOF stands there, out of this one at its end, or a refusal.
-#[derive(Drop)]
+#[derive(Clone, Copy)]
 pub enum Step {
     More(Here),
     Open(usize),
@@ -26,7 +28,7 @@ pub enum Step {
 }
 
 // How the walk of a substream ends: after its EOF, or with a refusal.
-#[derive(Drop)]
+#[derive(Clone, Copy)]
 pub enum Ended {
     At(usize),
     Refused { number: u8, offset: usize },

@@ -1,4 +1,6 @@
 // The new string table, counted and written by chunks of its old strings.
+#![tactic(auto)]
+
 ghost use Rattle.std.specs.Prelude.{◌≡◌, ◌+◌, ◌*◌, ◌≤◌, ◌<◌, length};
 ghost use Rattle.segments.specs.Segments.{got};
 ghost use Rattle.segments.specs.Parts.{Inside, ends, Passes};
@@ -17,7 +19,7 @@ use table_size::{Sized, Span};
 use table_writer::{Copied, Out};
 
 // The bytes of the new table, and how many strings it has.
-#[derive(Drop)]
+#[derive(Clone, Copy)]
 pub struct Extent {
     pub size: usize,
     pub count: usize,

@@ -1,4 +1,6 @@
 // The size of a string table that is written anew, counted before anything is written.
+#![tactic(auto)]
+
 ghost use Rattle.std.specs.Prelude.{◌≡◌, [], true, ◌+◌, ◌-◌, ◌*◌, ◌≤◌, ◌<◌, length};
 ghost use Rattle.segments.specs.Segments.{got, list_of, items};
 ghost use Rattle.segments.specs.Parts.{Inside, Passes, ends};
@@ -13,14 +15,14 @@ use segments::{Cursor, Moved};
 use strings::{Head, HeadRead};
 
 // The bytes that are left in the segment at hand, and the bytes so far.
-#[derive(Drop)]
+#[derive(Clone, Copy)]
 pub struct Span {
     pub room: usize,
     pub size: usize,
 }
 
 // Where the reading has come to, and the count.
-#[derive(Drop)]
+#[derive(Clone, Copy)]
 pub struct Sized {
     pub from: Cursor,
     pub span: Span,

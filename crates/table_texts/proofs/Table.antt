@@ -12,7 +12,7 @@ use Rattle.steps.proofs.Choice.{pick_by, pick_any, pick_nlt}
 use Rattle.byte_numbers.specs.Bytes.{byte_at, num_at, u16_at, u32_at, bytes_of}
 use Rattle.byte_numbers.proofs.Laws.{length_bytes}
 use Rattle.segments.specs.declared.Cursor.{Cursor}
-use Rattle.segments.specs.Segments.{Got, got, refused, then, push, list_of, on, continues, filled, need, width_of, room, items}
+use Rattle.segments.specs.Segments.{Got, got, refused, then, push, list_of, on, continues, filled, need, width_of, items}
 use Rattle.record.specs.declared.Header.TheVariants.{Record}
 use Rattle.record.specs.Record.{header_at}
 use Rattle.segments.proofs.Local.{room_here, filled_got, Within}

@@ -1,4 +1,6 @@
 // Writes a string table anew: an SST and its CONTINUEs, into a lent buffer, from strings of an old table.
+#![tactic(auto)]
+
 ghost use Rattle.std.specs.Prelude.{◌≡◌, [], ◌∷◌, true, ◌+◌, ◌-◌, ◌*◌, ◌≤◌, ◌<◌, length};
 ghost use Rattle.byte_numbers.specs.Bytes.{num_at, bytes_of};
 ghost use Rattle.segments.specs.Segments.{got, list_of, on, items};
@@ -13,7 +15,7 @@ use segments::{Cursor, Moved, Room};
 use strings::{Head, HeadRead};
 
 // Where the writer has come to: the segment's header, the next byte, the bytes that are left in the segment.
-#[derive(Drop)]
+#[derive(Clone, Copy)]
 pub struct Out {
     pub seg: usize,
     pub at: usize,
@@ -21,7 +23,7 @@ pub struct Out {
 }
 
 // Where the reading and the writing have come to.
-#[derive(Drop)]
+#[derive(Clone, Copy)]
 pub struct Copied {
     pub from: Cursor,
     pub out: Out,

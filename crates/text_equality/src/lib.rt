@@ -1,4 +1,6 @@
 // Characters compared: those of two shared strings, wherever their segments part them, those of two names, and those of two text results.
+#![tactic(auto)]
+
 ghost use Rattle.std.specs.Prelude.{◌≡◌, ◌+◌, ◌-◌, ◌*◌, ◌/◌, ◌≤◌, ◌<◌, length};
 ghost use Rattle.segments.specs.Segments.{list_of};
 ghost use Rattle.segments.specs.Parts.{Inside, Passes, nums};
@@ -13,7 +15,7 @@ use segments::{Cursor, Moved};
 use value::{CellValue, FormulaResult};
 
 // The characters of a string: how many, the bytes of the first one, and where they start.
-#[derive(Drop)]
+#[derive(Clone, Copy)]
 pub struct Chars {
     pub count: usize,
     pub width: usize,
@@ -21,7 +23,7 @@ pub struct Chars {
 }
 
 // So many characters stand together in both segments, with their bytes in the one and in the other.
-#[derive(Drop)]
+#[derive(Clone, Copy)]
 struct Run {
     count: usize,
     first: usize,

@@ -1,5 +1,7 @@
 // The text result of a formula: the STRING after it and the CONTINUEs right after that.
 // A crate above has read the FORMULA's record and found it whole: f is its header, e its end. So the functions may require that they lie in the stream.
+#![tactic(auto)]
+
 ghost use Rattle.std.specs.Prelude.{◌≡◌, ◌+◌, ◌*◌, ◌≤◌, ◌<◌, length};
 ghost use Rattle.segments.specs.Segments.{list_of};
 ghost use Rattle.segments.specs.Parts.{Inside, ends, moved, Passes};
@@ -14,7 +16,7 @@ use segments::{Cursor, Moved};
 use strings::Fetched;
 
 // The formula whose value field is at a place, where it has a text result: its record stands from `at` to `end`.
-#[derive(Drop)]
+#[derive(Clone, Copy)]
 pub enum Placed {
     Formula { at: usize, end: usize },
     Nothing,

@@ -1,4 +1,6 @@
 // Judging formula bytes: tokens over a stack of operands.
+#![tactic(auto)]
+
 ghost use Rattle.std.specs.Prelude.{◌≡◌, ◌+◌, ◌^◌, ◌≤◌, ◌<◌, length};
 ghost use Rattle.tokens.specs.Tokens.{operand_of, text_of, choice_of, attribute_of, error_of, truth_of, whole_of, base_of, column_clear, reference_of, area_of, fixed_of, called_of, variable_of, inner_of, memory_of, classified_of, token_of};
 ghost use Rattle.tokens.specs.Judge.{at_end, tokens_judged};
@@ -7,14 +9,14 @@ ghost use Rattle.tokens.specs.Parts.{plain_step, memory_step, Right, RightStep, 
 use function_counts::Counts;
 
 // The answer on a formula's bytes.
-#[derive(Drop)]
+#[derive(Clone, Copy)]
 pub enum Judgement {
     Accepted,
     Refused { number: u8, offset: usize },
 }
 
 // A token, before the stack is looked at.
-#[derive(Drop)]
+#[derive(Clone, Copy)]
 pub enum Token {
     // its bytes, the operands that it takes off the stack, and those that it gives
     Plain(usize, usize, usize),
@@ -25,7 +27,7 @@ pub enum Token {
 }
 
 // What a token leads to: the bytes passed and the operands on the stack there, or a refusal.
-#[derive(Drop)]
+#[derive(Clone, Copy)]
 enum Step {
     Next { size: usize, stack: usize },
     Refused { number: u8, offset: usize },

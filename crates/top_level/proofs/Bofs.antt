@@ -23,7 +23,6 @@ use Rattle.substream.specs.declared.Ended.{Ended}
 use Rattle.substream.specs.declared.Ended.TheVariants as ended
 use Rattle.substream.specs.Substream.{kind_at, substream_in}
 use Rattle.substream.proofs.Laws.{onward}
-use Rattle.sheet_agreement.specs.Agreement.{Bof}
 use Rattle.top_level.specs.declared.Top.{Top}
 use Rattle.top_level.specs.declared.Top.TheVariants.{Open, Done, Stop}
 use Rattle.top_level.specs.declared.Walked.{Walked}

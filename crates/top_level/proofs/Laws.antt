@@ -13,7 +13,7 @@ use Rattle.steps.proofs.Choice.{never, pick_eq, pick_ne, pick_any}
 use Rattle.record.specs.declared.Header.{Header}
 use Rattle.record.specs.declared.Header.TheVariants.{Record, Cut, End}
 use Rattle.record.specs.Record.{header_at}
-use Rattle.sheet_agreement.specs.Agreement.{Sheet, Bof, starts, named, claimed, agreement_of}
+use Rattle.sheet_agreement.specs.Agreement.{Bof, starts, named, claimed, agreement_of}
 use Rattle.sheet_agreement.specs.Slots.{inside, code_of, marks, Marked, Empty, Onward, judged_in, sooner, or_else, Passed}
 use Rattle.sheet_agreement.specs.declared.Agreement.{Agreement}
 use Rattle.sheet_agreement.specs.declared.Agreement.TheVariants.{Agree, Disagree}

@@ -1,6 +1,8 @@
 // The top-level substreams after the globals: what stands between them, their BOFs, and the walk of them with the sheet list held against it: refusal 10.
 // Sheets that name the BOFs in their order, as writers write them, are settled inside the walk; for any other order the BOFs are put into slots of 24
 // positions, 53,248 slots at a time, so that the stack holds them: each window walks its own BOFs once more, and all sheets once.
+#![tactic(auto)]
+
 ghost use Rattle.std.specs.Prelude.{◌≡◌, ◌+◌, ◌≤◌, length, drop, eqb, true};
 ghost use Rattle.substream.specs.Substream.{kind_at};
 ghost use Rattle.top_level.specs.TopLevel.{all_zero, bof_kind, top_of, bof_at, bofs_from};
@@ -17,7 +19,7 @@ use sheet_agreement::Agreement;
 use substream::Ended;
 
 // What stands between the top-level substreams: a BOF of this kind, the end, or a refusal.
-#[derive(Drop)]
+#[derive(Clone, Copy)]
 pub enum Top {
     Open(u16),
     Done,
@@ -25,14 +27,14 @@ pub enum Top {
 }
 
 // How the walk of the top-level substreams ends.
-#[derive(Drop)]
+#[derive(Clone, Copy)]
 pub enum Walked {
     Passed,
     Refused { number: u8, offset: usize },
 }
 
 // The next top-level BOF: its kind (worksheet 1, chart 2, macro 3), and where its substream ends.
-#[derive(Drop)]
+#[derive(Clone, Copy)]
 pub enum Found {
     Bof { kind: u32, end: usize },
     None,
@@ -136,14 +138,14 @@ fn bof_at(s: &[u8], unique: u32, at: usize) -> Found
 }
 
 // How the walk of the top-level substreams ends, with the place that the sheets were followed to.
-#[derive(Drop)]
+#[derive(Clone, Copy)]
 pub enum Tail {
     Passed(usize),
     Refused { number: u8, offset: usize },
 }
 
 // The BOFs of a window that are left: they are all named, and the next BOF, if there is one, stands at this place; or the first that no sheet names.
-#[derive(Drop)]
+#[derive(Clone, Copy)]
 pub enum Remaining {
     Named(usize),
     Free(usize),
@@ -151,7 +153,7 @@ pub enum Remaining {
 
 // What a window gives: the first of its sheets that isn't right; if all are, the first of its BOFs that no sheet names; where the next window starts, 0 if
 // there is none; and the place of the next BOF.
-#[derive(Drop)]
+#[derive(Clone, Copy)]
 pub struct Window {
     pub fault: Agreement,
     pub free: Agreement,

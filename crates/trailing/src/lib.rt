@@ -1,9 +1,11 @@
 // The data of array constants and cached areas, in the bytes after a formula's tokens.
+#![tactic(auto)]
+
 ghost use Rattle.std.specs.Prelude.{◌≡◌, ◌≤◌, length};
 ghost use Rattle.trailing.specs.Trailing.{sized_of, text_of, truth_of, error_of, element_of, elements_of, array_of, areas_of};
 
 // The data of a token, or an element of it: the bytes that it takes up; or it is cut or bad.
-#[derive(Drop)]
+#[derive(Clone, Copy)]
 pub enum Data {
     Takes(usize),
     Bad,

@@ -1,4 +1,6 @@
 // Truths and error codes: which bytes are right, for cells and for formula tokens alike.
+#![tactic(auto)]
+
 ghost use Rattle.std.specs.Prelude.{◌≡◌};
 ghost use Rattle.truth_error.specs.Boolerr.{is_truth, is_error};
 

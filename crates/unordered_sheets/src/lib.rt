@@ -1,6 +1,8 @@
 // The differences between the cells of two sheets in whatever order they are listed: window after window of addresses, with the records that have a cell in it in
 // lent tables. A large window takes a pass over both sheets; of its records those of a smaller window are sifted out, and so on down to a few, which are looked
 // through for each next cell. Each size is about an eighth of the one before: a record is then looked at some eight times for each.
+#![tactic(auto)]
+
 ghost use Rattle.std.specs.Prelude.{◌≡◌, ◌≤◌, ◌<◌, length};
 ghost use Rattle.reading.specs.Cells.{place_at, listed_from};
 ghost use Rattle.address_windows.specs.Windows.{Hint};
@@ -13,7 +15,7 @@ use address_windows::Gathered;
 
 // A window that two tables hold: where it ends, and x records of the one sheet and y of the other. The next is likely to have its first cell at `near`, and tries so
 // many addresses from there on; both are guesses, and nothing but the time taken depends on them.
-#[derive(Drop)]
+#[derive(Clone, Copy)]
 pub struct Held {
     pub high: u64,
     pub x: usize,

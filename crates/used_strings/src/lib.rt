@@ -1,4 +1,6 @@
 // Which strings are used: flags for the indices from a first one on, by one walk of the stream's records.
+#![tactic(auto)]
+
 ghost use Rattle.std.specs.Prelude.{[], ◌∷◌, ◌+◌, ◌≤◌, ◌<◌, length};
 ghost use Rattle.new_places.specs.Parts.{fated};
 ghost use Rattle.new_stream.specs.Entries.{entries_of};

@@ -1,9 +1,11 @@
 // What the value field of a cell says, and whether it is right.
+#![tactic(auto)]
+
 ghost use Rattle.std.specs.Prelude.{◌≡◌, ◌%◌};
 ghost use Rattle.value.specs.Value.{width_of, result_of, value_of, value_fits, marked_result, marked_fits, result_number};
 
 // The kinds of value field. A blank has none.
-#[derive(Drop)]
+#[derive(Clone, Copy)]
 pub enum Field {
     NoField,
     Float,
@@ -14,7 +16,7 @@ pub enum Field {
 }
 
 // A NaN's pattern is no f64's own, so it is carried as its 64 bits.
-#[derive(Drop)]
+#[derive(Clone, Copy)]
 pub enum FormulaResult {
     Number(f64),
     NotNumber(u64),
@@ -24,7 +26,7 @@ pub enum FormulaResult {
     Empty,
 }
 
-#[derive(Drop)]
+#[derive(Clone, Copy)]
 pub enum CellValue {
     Blank,
     Number(f64),

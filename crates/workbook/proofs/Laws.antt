@@ -26,7 +26,7 @@ use Rattle.top_level.proofs.Following.{Tailed, tail_says}
 use Rattle.workbook.specs.declared.Checked.{Checked}
 use Rattle.workbook.specs.declared.Checked.TheVariants.{Right, Wrong}
 use Rattle.workbook.specs.declared.Answer.{Answer}
-use Rattle.workbook.specs.declared.Answer.TheVariants.{Passed, Refused}
+use Rattle.workbook.specs.declared.Answer.TheVariants.{Passed}
 use Rattle.workbook.specs.Check.{agreed, on_walked, on_globals, checked_of, answered, check_of}
 
 -- ---- from the answers of the parts to the whole

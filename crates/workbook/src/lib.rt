@@ -1,4 +1,6 @@
 // The check of a stream.
+#![tactic(auto)]
+
 ghost use Rattle.std.specs.Prelude.{◌≡◌, length};
 ghost use Rattle.globals.specs.Sheets.{sheets_of};
 ghost use Rattle.workbook.specs.Check.{checked_of, check_of};
@@ -8,14 +10,14 @@ use sheet_agreement::Agreement;
 use top_level::Tail;
 
 // What the globals of a stream that passes hold, or the refusal's number and offset.
-#[derive(Drop)]
+#[derive(Clone, Copy)]
 pub enum Checked {
     Right(Globals),
     Wrong { number: u8, offset: usize },
 }
 
 // The answer to a check: how many sheets and strings, or the refusal's number and offset.
-#[derive(Drop)]
+#[derive(Clone, Copy)]
 pub enum Answer {
     Passed { sheets: usize, strings: u32 },
     Refused { number: u8, offset: usize },

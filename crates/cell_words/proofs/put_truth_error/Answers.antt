@@ -1,0 +1,12 @@
+use Rattle.cell_words.proofs.Parts.{put_laws}
+use borrow.Author.Rules.{rules}
+use Rattle.cell_words.proofs.put_truth_error.Goals as goal
+
+pub returns-then-size-ne8 : goal.returns-then-size-ne8
+returns-then-size-ne8 c = search (put_laws, rules)
+
+pub returns-then-k-ne0 : goal.returns-then-k-ne0
+returns-then-k-ne0 c = search (put_laws, rules)
+
+pub returns : goal.returns
+returns c = search (put_laws, rules)

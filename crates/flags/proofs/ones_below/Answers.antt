@@ -1,0 +1,15 @@
+use Rattle.flags.proofs.Laws.{ones_laws}
+use borrow.Author.Rules.{rules}
+use Rattle.flags.proofs.ones_below.Goals as goal
+
+pub overflow_shl-mask : goal.overflow_shl-mask
+overflow_shl-mask c = search (ones_laws, rules)
+
+pub overflow_sub-mask : goal.overflow_sub-mask
+overflow_sub-mask c = search (ones_laws, rules)
+
+pub overflow_cast-result : goal.overflow_cast-result
+overflow_cast-result c = search (ones_laws, rules)
+
+pub returns : goal.returns
+returns c = (search (ones_laws, rules), search (ones_laws, rules))

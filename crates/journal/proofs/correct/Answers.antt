@@ -1,0 +1,25 @@
+use Rattle.journal.proofs.Laws.{checked_laws}
+use Rattle.workbook.proofs.Laws.{short}
+use borrow.Author.Rules.{rules}
+use Rattle.journal.proofs.correct.Goals as goal
+
+pub correct_in-requires : goal.correct_in-requires
+correct_in-requires c = search (short, rules)
+
+pub returns-in-Wrong-clause-value : goal.returns-in-Wrong-clause-value
+returns-in-Wrong-clause-value c = search (checked_laws, rules)
+
+pub returns-in-Wrong-clause-s_after : goal.returns-in-Wrong-clause-s_after
+returns-in-Wrong-clause-s_after c = search (checked_laws, rules)
+
+pub returns-in-Wrong-clause-j_after : goal.returns-in-Wrong-clause-j_after
+returns-in-Wrong-clause-j_after c = search (checked_laws, rules)
+
+pub returns-in-Right-clause-value : goal.returns-in-Right-clause-value
+returns-in-Right-clause-value c = search (checked_laws, rules)
+
+pub returns-in-Right-clause-s_after : goal.returns-in-Right-clause-s_after
+returns-in-Right-clause-s_after c = search (checked_laws, rules)
+
+pub returns-in-Right-clause-j_after : goal.returns-in-Right-clause-j_after
+returns-in-Right-clause-j_after c = search (checked_laws, rules)

@@ -1,0 +1,11 @@
+use Rattle.new_fields.proofs.Indices.{Reindexing}
+use Prim.Native.Nat.{◌-◌}
+use Rattle.new_fields.proofs.reindex.Given as goal
+
+abbrev pub invariant-loop-base : goal.invariant-loop-base
+invariant-loop-base l =
+    Reindexing l.s l.table l.k l.initial.flags l.initial.ranks l.initial.out l.base l.start l.flags l.ranks l.out
+
+abbrev pub decreases-loop-base : goal.decreases-loop-base
+decreases-loop-base l =
+    l.top - l.base

@@ -1,0 +1,5 @@
+use Rattle.number.proofs.Decoding.{decoding}
+use Rattle.number.proofs.means_nothing.Goals as goal
+
+pub returns : goal.returns
+returns c = search decoding
