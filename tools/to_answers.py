@@ -165,7 +165,7 @@ def turn_paths_of(term, name, place, places, goal, whole):
             if at in places and places[at][0] is not None:
                 at = places[at][0]
         if not path:
-            return m[0] + "?" if False else "c"
+            return "c"
         if path[0] == "requires":
             return "c." + ".".join(labelled(path, 1, OWN.get("requires", [])))
         path[0] = path[0].replace("well-formed", "well_formed").replace("type-inv", "type_inv")
