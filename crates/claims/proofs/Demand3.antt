@@ -50,7 +50,7 @@ use Rattle.passes_after.proofs.Granted.{granted, listed_only, field_high}
 use Rattle.passes_after.proofs.Upheld.{upheld, sheets_stay}
 use Rattle.reads_after.specs.Replaced.{has_address, with_value, replaced_cell, replaced_sheet, on_nth, values_at}
 use Rattle.reads_after.proofs.Reading.{reads_replaced, new_after}
-use Rattle.claims.specs.Demand3.{Corrects, Only, One, HoldsNew, OthersStay, passed, Passes, ReadsNew, OneAfter, Granted as OfGranted, spot_of, of_cells, SpotsStay, text_of, TextsStay, takes, Unfit, Refusal, checked, lent_sheet, no_sheet_lem, no_cell, many, kind, value, RefusedExactly, RefusedKeeps, PackedExactly}
+use Rattle.claims.specs.Demand3.{Corrects, Only, One, HoldsNew, OthersStay, passed, Passes, ReadsNew, OneAfter, Granted as OfGranted, spot_of, of_cells, SpotsStay, text_of, TextsStay, takes, Unfit, Refusal, checked, lent_sheet, no_such_sheet, no_cell, many, kind, value, RefusedExactly, RefusedKeeps, PackedExactly}
 
 -- ---- a granted correction: what was written, and into which cell
 pub record Made (s : List ℕ) (lent sheets n row column : ℕ) (v : NewValue) (t : List ℕ) : Type 0 where
@@ -260,7 +260,7 @@ module _ (s : List ℕ) (lent sheets n row column : ℕ) (v : NewValue) (held : 
 
   sheet_met : (g : Globals) → checked_of s lent ≡ Right g → length (sheets_of s) ≤ n → Met (no_sheet sheets n) 0
   unfolding no_sheet
-  sheet_met g e i = pick_by (λ (k : ℕ). Met k 0) (ltb n sheets) (λ h. lent_sheet e i (ltb-true n sheets h)) (λ h. no_sheet_lem e i (ltb-false n sheets h))
+  sheet_met g e i = pick_by (λ (k : ℕ). Met k 0) (ltb n sheets) (λ h. lent_sheet e i (ltb-true n sheets h)) (λ h. no_such_sheet e i (ltb-false n sheets h))
 
   checked_met : (m o : ℕ) (k : Checked) → checked_of s lent ≡ k
       → on_checked refuses (λ (g : Globals). nth (sheets_of s) n (λ (x : Sheet). on_cells v g.unique (cells_at row column (listed_of s x))) (refuses (no_sheet sheets n) 0)) k ≡ refuses m o → Met m o
@@ -289,7 +289,7 @@ module _ (s : List ℕ) (lent sheets n row column : ℕ) (v : NewValue) (held : 
   unfolding correction_of
   met_refused m o (checked e) = ap (on_checked refuses (λ (g : Globals). nth (sheets_of s) n (λ (x : Sheet). on_cells v g.unique (cells_at row column (listed_of s x))) (refuses (no_sheet sheets n) 0))) e
   met_refused m o (lent_sheet {g = g} e i l) = on_missing g e i ∙ ap (λ (k : ℕ). refuses k 0) (sym (sheet_lent sheets n refl l))
-  met_refused m o (no_sheet_lem {g = g} e i l) = on_missing g e i ∙ ap (λ (k : ℕ). refuses k 0) (sym (sheet_missing sheets n refl l))
+  met_refused m o (no_such_sheet {g = g} e i l) = on_missing g e i ∙ ap (λ (k : ℕ). refuses k 0) (sym (sheet_missing sheets n refl l))
   met_refused m o (no_cell {g = g} {x = x} e i j) = on_sheet_lem g x e i ∙ ap (on_cells v g.unique) j
   met_refused m o (many {g = g} {x = x} e i j) = on_sheet_lem g x e i ∙ ap (on_cells v g.unique) j
   met_refused m o (kind {c = c} {unique = u} i e) = on_only c u i ∙ ap (on_plan c) ((settles c.kind v u held).kind e)

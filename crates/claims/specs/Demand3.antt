@@ -149,7 +149,7 @@ pub data Refusal (s : List ℕ) (lent sheets n row column : ℕ) (v : NewValue) 
   -- the sheet is the template's
   lent_sheet : {g : Globals} → checked_of s lent ≡ Right g → length (sheets_of s) ≤ n → n < sheets → Refusal s lent sheets n row column v 17 0
   -- the sheet is absent
-  no_sheet_lem : {g : Globals} → checked_of s lent ≡ Right g → length (sheets_of s) ≤ n → sheets ≤ n → Refusal s lent sheets n row column v 11 0
+  no_such_sheet : {g : Globals} → checked_of s lent ≡ Right g → length (sheets_of s) ≤ n → sheets ≤ n → Refusal s lent sheets n row column v 11 0
   -- the cell is absent
   no_cell : {g : Globals} {x : Sheet} → checked_of s lent ≡ Right g → Nth (sheets_of s) n x → cells_at row column (listed_of s x) ≡ [] → Refusal s lent sheets n row column v 11 0
   -- two or more cells have the address

@@ -88,7 +88,7 @@ fn after_token(t: &[u8], offset: usize, depth: u8, d: &[u8], seen: Seen) -> Seen
     requires t_bound { offset + length t.now < 2 ^ 32 }
     requires seen_within { SeenWithin (length d.now) seen }
     ensures value { result ≡ seen_after t.now offset depth d.now seen }
-    ensures seen_within_2 { SeenWithin (length d.now) result }
+    ensures within_after { SeenWithin (length d.now) result }
 {
     match seen {
         Seen::Used(at) => after_used(t, offset, depth, d, at),
@@ -127,7 +127,7 @@ fn visit_formula(b: &[u8], base: usize, depth: u8, d: &[u8], seen: Seen) -> Seen
     requires b_bound { base + length b.now < 2 ^ 32 }
     requires seen_within { SeenWithin (length d.now) seen }
     ensures right { Right b.now base depth d.now seen result }
-    ensures seen_within_2 { SeenWithin (length d.now) result }
+    ensures within_after { SeenWithin (length d.now) result }
 {
     let mut at: usize = 0;
     let mut so_far = seen;

@@ -72,15 +72,6 @@ counts_small index = find_small functions tt index
 pub group_listed : (group k w : ℕ) → group ≡ k → w ≡ entries_from 8 (8 * k) → w ≡ entries_from 8 (8 * group)
 group_listed group k w e h = rw e h
 
--- what the last arm of a match is told: the number is none of those below n
-abbrev NoneOf : ℕ → ℕ → Type 0
-NoneOf zero x = Unit
-NoneOf (suc n) x = NoneOf n x × (x ≡ n → ⊥)
-
-past : (n x : ℕ) → NoneOf n x → n ≤ x
-past zero x h = omega arith
-past (suc n) x h = let p = past n x h.0 in omega (arith, p, h.1)
-
 -- n entries of no function
 full : ℕ → ℕ
 full zero = 0

@@ -98,17 +98,13 @@ loop-j-preserved c =
 pub shape_of-out-in-End : goal.shape_of-out-in-End
 shape_of-out-in-End c = c.loop-j.invariant.size
 
-pub returns-in-End-clause-value : goal.returns-in-End-clause-value
-returns-in-End-clause-value c = (going_end _ _ _ _ _ _ _ _ _ _ _ _ _ _ _ c.loop-j.invariant (turn_is _ _ _ turn.End c.turn_of.ensures c.in-End.is)).0
-
-pub returns-in-End-clause-out_after : goal.returns-in-End-clause-out_after
-returns-in-End-clause-out_after c = (going_end _ _ _ _ _ _ _ _ _ _ _ _ _ _ _ c.loop-j.invariant (turn_is _ _ _ turn.End c.turn_of.ensures c.in-End.is)).1
+pub returns-in-End : goal.returns-in-End
+returns-in-End c =
+    let h = going_end _ _ _ _ _ _ _ _ _ _ _ _ _ _ _ c.loop-j.invariant (turn_is _ _ _ turn.End c.turn_of.ensures c.in-End.is) in record { value = h.0; out_after = h.1 }
 
 pub shape_of-out : goal.shape_of-out
 shape_of-out c = c.loop-j.invariant.size
 
-pub returns-clause-value : goal.returns-clause-value
-returns-clause-value c = (going_full _ _ _ _ _ _ _ _ _ _ _ _ _ _ _ c.loop-j.invariant c.loop-j-test.false).0
-
-pub returns-clause-out_after : goal.returns-clause-out_after
-returns-clause-out_after c = (going_full _ _ _ _ _ _ _ _ _ _ _ _ _ _ _ c.loop-j.invariant c.loop-j-test.false).1
+pub returns : goal.returns
+returns c =
+    let h = going_full _ _ _ _ _ _ _ _ _ _ _ _ _ _ _ c.loop-j.invariant c.loop-j-test.false in record { value = h.0; out_after = h.1 }

@@ -26,17 +26,13 @@ loop-j-preserved c =
 pub shape_of-out-else-either : goal.shape_of-out-else-either
 shape_of-out-else-either c = c.loop-j.invariant.size
 
-pub returns-else-either-clause-value : goal.returns-else-either-clause-value
-returns-else-either-clause-value c = (listing_end _ _ _ _ _ _ _ _ _ _ _ c.loop-j.invariant _ _ c.sheet_at-x.ensures c.sheet_at-y.ensures _ c.either.ensures c.if-either.false).0
-
-pub returns-else-either-clause-out_after : goal.returns-else-either-clause-out_after
-returns-else-either-clause-out_after c = (listing_end _ _ _ _ _ _ _ _ _ _ _ c.loop-j.invariant _ _ c.sheet_at-x.ensures c.sheet_at-y.ensures _ c.either.ensures c.if-either.false).1
+pub returns-else-either : goal.returns-else-either
+returns-else-either c =
+    let h = listing_end _ _ _ _ _ _ _ _ _ _ _ c.loop-j.invariant _ _ c.sheet_at-x.ensures c.sheet_at-y.ensures _ c.either.ensures c.if-either.false in record { value = h.0; out_after = h.1 }
 
 pub shape_of-out : goal.shape_of-out
 shape_of-out c = c.loop-j.invariant.size
 
-pub returns-clause-value : goal.returns-clause-value
-returns-clause-value c = (listing_full _ _ _ _ _ _ _ _ _ _ _ c.loop-j.invariant c.loop-j-test.false).0
-
-pub returns-clause-out_after : goal.returns-clause-out_after
-returns-clause-out_after c = (listing_full _ _ _ _ _ _ _ _ _ _ _ c.loop-j.invariant c.loop-j-test.false).1
+pub returns : goal.returns
+returns c =
+    let h = listing_full _ _ _ _ _ _ _ _ _ _ _ c.loop-j.invariant c.loop-j-test.false in record { value = h.0; out_after = h.1 }

@@ -19,8 +19,8 @@ visit_formula-loop-at-preserved t c = (search on_visit_lem, search on_visit_lem,
 pub visit_formula-returns-in-End-clause-right : goal.visit_formula-returns-in-End-clause-right
 visit_formula-returns-in-End-clause-right t c = search on_visit_lem
 
-pub visit_formula-returns-in-End-clause-seen_within_2 : goal.visit_formula-returns-in-End-clause-seen_within_2
-visit_formula-returns-in-End-clause-seen_within_2 t c = search on_visit_lem
+pub visit_formula-returns-in-End-clause-within_after : goal.visit_formula-returns-in-End-clause-within_after
+visit_formula-returns-in-End-clause-within_after t c = search on_visit_lem
 
 pub visit_formula-returns-clause-right : goal.visit_formula-returns-clause-right
 visit_formula-returns-clause-right t c = search on_visit_lem

@@ -14,17 +14,17 @@ after_astray-requires-clause-at_in_bounds c = search on_seen
 pub returns-in-Used-clause-value : goal.returns-in-Used-clause-value
 returns-in-Used-clause-value c = search on_seen
 
-pub returns-in-Used-clause-seen_within_2 : goal.returns-in-Used-clause-seen_within_2
-returns-in-Used-clause-seen_within_2 c = search on_seen
+pub returns-in-Used-clause-within_after : goal.returns-in-Used-clause-within_after
+returns-in-Used-clause-within_after c = search on_seen
 
 pub returns-in-Astray-clause-value : goal.returns-in-Astray-clause-value
 returns-in-Astray-clause-value c = search on_seen
 
-pub returns-in-Astray-clause-seen_within_2 : goal.returns-in-Astray-clause-seen_within_2
-returns-in-Astray-clause-seen_within_2 c = search on_seen
+pub returns-in-Astray-clause-within_after : goal.returns-in-Astray-clause-within_after
+returns-in-Astray-clause-within_after c = search on_seen
 
 pub returns-in-Spoilt-clause-value : goal.returns-in-Spoilt-clause-value
 returns-in-Spoilt-clause-value c = search on_seen
 
-pub returns-in-Spoilt-clause-seen_within_2 : goal.returns-in-Spoilt-clause-seen_within_2
-returns-in-Spoilt-clause-seen_within_2 c = search on_seen
+pub returns-in-Spoilt-clause-within_after : goal.returns-in-Spoilt-clause-within_after
+returns-in-Spoilt-clause-within_after c = search on_seen

@@ -37,11 +37,9 @@ shape_of-l-then-out-j c = c.loop-lo.invariant.4.same_second
 pub shape_of-out-then-out-j : goal.shape_of-out-then-out-j
 shape_of-out-then-out-j c = c.loop-lo.invariant.0.size
 
-pub returns-then-out-j-clause-value : goal.returns-then-out-j-clause-value
-returns-then-out-j-clause-value c = (range_full _ _ _ _ _ _ _ _ _ _ _ _ _ c.loop-lo.invariant.0 c.if-out-j.true).0
-
-pub returns-then-out-j-clause-out_after : goal.returns-then-out-j-clause-out_after
-returns-then-out-j-clause-out_after c = (range_full _ _ _ _ _ _ _ _ _ _ _ _ _ c.loop-lo.invariant.0 c.if-out-j.true).1
+pub returns-then-out-j : goal.returns-then-out-j
+returns-then-out-j c =
+    let h = range_full _ _ _ _ _ _ _ _ _ _ _ _ _ c.loop-lo.invariant.0 c.if-out-j.true in record { value = h.0; out_after = h.1 }
 
 pub wide_window-far-requires : goal.wide_window-far-requires
 wide_window-far-requires c = (c.loop-lo.invariant.1.holds, c.loop-lo-test.true, let x = c.loop-lo.invariant.1.same_first in let y = c.requires.5 in omega arith)
@@ -88,11 +86,9 @@ shape_of-l-then-high-lo c = c.part_window-near.ensures.same_second ∙ c.loop-lo
 pub shape_of-out-then-high-lo : goal.shape_of-out-then-high-lo
 shape_of-out-then-high-lo c = ap length c.merge_sheets.ensures.out_after ∙ length_puts _ _ _ ∙ c.loop-lo.invariant.0.size
 
-pub returns-then-high-lo-clause-value : goal.returns-then-high-lo-clause-value
-returns-then-high-lo-clause-value c = (range_last _ _ _ _ _ _ _ _ _ _ _ _ _ c.loop-lo.invariant.0 _ _ c.merge_sheets.ensures.value c.merge_sheets.ensures.out_after).0
-
-pub returns-then-high-lo-clause-out_after : goal.returns-then-high-lo-clause-out_after
-returns-then-high-lo-clause-out_after c = (range_last _ _ _ _ _ _ _ _ _ _ _ _ _ c.loop-lo.invariant.0 _ _ c.merge_sheets.ensures.value c.merge_sheets.ensures.out_after).1
+pub returns-then-high-lo : goal.returns-then-high-lo
+returns-then-high-lo c =
+    let h = range_last _ _ _ _ _ _ _ _ _ _ _ _ _ c.loop-lo.invariant.0 _ _ c.merge_sheets.ensures.value c.merge_sheets.ensures.out_after in record { value = h.0; out_after = h.1 }
 
 pub merge-j-requires : goal.merge-j-requires
 merge-j-requires c =
@@ -133,8 +129,6 @@ shape_of-l c = c.loop-lo.invariant.4.same_second
 pub shape_of-out : goal.shape_of-out
 shape_of-out c = c.loop-lo.invariant.0.size
 
-pub returns-clause-value : goal.returns-clause-value
-returns-clause-value c = (range_end _ _ _ _ _ _ _ _ _ _ _ _ _ c.loop-lo.invariant.0 c.loop-lo-test.false).0
-
-pub returns-clause-out_after : goal.returns-clause-out_after
-returns-clause-out_after c = (range_end _ _ _ _ _ _ _ _ _ _ _ _ _ c.loop-lo.invariant.0 c.loop-lo-test.false).1
+pub returns : goal.returns
+returns c =
+    let h = range_end _ _ _ _ _ _ _ _ _ _ _ _ _ c.loop-lo.invariant.0 c.loop-lo-test.false in record { value = h.0; out_after = h.1 }
