@@ -23,7 +23,8 @@ OUT := target/install
 SHARED := $(OUT)/libstation.so.$(VERSION)
 TOOL := target/rust/release/vaigunthe
 
-PROVED := $(shell find crates -path '*/src/*' -type f -o -path '*/specs/*' -type f -o -path '*/proofs/*' -type f)
+# What checks keep below out/ has folders of these names too.
+PROVED := $(shell find crates -name out -prune -o -type f \( -path '*/src/*' -o -path '*/specs/*' -o -path '*/proofs/*' \) -print)
 
 # Each file that the command line prints, and where it is put.
 MAN := $(DATADIR)/man/man1/vaigunthe.1
