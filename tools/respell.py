@@ -29,8 +29,6 @@ MADE_WAY = {
     "head_bytes": ("head_bytes_lem", ["table_writer/proofs/Whole"]),
     "on_step": ("on_step_laws", ["tokens/proofs/Formula"]),
 }
-# Words that stay as they are.
-STAY = set()
 WORD = re.compile(r'[^\s(){}.;,@"«»`]+')
 DECLARED = re.compile(r"^ *(?:(?:pub|abbrev|unfoldable|data|record) +)*([^\s(){}.;,@\"«»:]+)(?: [({][^\n]*)? :(?: |$)", re.M)
 RULES = re.compile(r"^ *(?:pub )?ruleset (\S+) =", re.M)
@@ -39,11 +37,10 @@ ANSWER = re.compile(r"/proofs/.+/(Proof|Answers|Invariants)\.antt$")
 HEADS = {"goal", "c", "w", "l", "g", "tie", "κs"}
 
 
-def snake(name, lemma=False):
-    """The name in snake case; a lemma that would have its function's name gets _lem."""
+def snake(name):
     if name in INSTEAD:
         return INSTEAD[name]
-    if name[:1].isupper() or name in STAY:
+    if name[:1].isupper():
         # a type, or a law that begins with one: a prime alone is respelled
         return name.replace("′", "'")
     new = re.sub(r"(?<=[a-z0-9])[A-Z]+", lambda m: "_" + m[0].lower(), name)
