@@ -14,7 +14,7 @@ use borrow.Author.Tests.{eqb-true, eqb-false, ltb-true, ltb-false, lt-ltb}
 use Rattle.steps.specs.Choice.{pick}
 use Rattle.steps.proofs.Choice.{pick_eq, pick_ne, pick_true, pick_false, pick_any, never}
 use Rattle.flags.specs.Flags.{bit_at, flag_at}
-use Rattle.flags.specs.Parts.{SetOne, zeros}
+use Rattle.flags.specs.Parts.{SetOne}
 use Rattle.flags.proofs.Clearing.{flag_none}
 use Rattle.record.specs.declared.Header.{Header}
 use Rattle.record.specs.declared.Header.TheVariants.{Record}
@@ -25,19 +25,19 @@ use Rattle.cell.specs.declared.Cell.{Cell}
 use Rattle.cell.specs.Cells.{shape_of, field_of, row_at, first_at, count_of, cell_from, cells_from, cells_of, part_of}
 use Rattle.cell.proofs.Sizes.{count_room}
 use Rattle.sheet_agreement.proofs.Laws.{no_marks}
-use Rattle.reading.specs.declared.Outside.{Outside}
-use Rattle.reading.specs.declared.Outside.TheVariants as outside
-use Rattle.reading.specs.Parts.{outside_item}
+use Rattle.std.specs.Prelude.{Option, None, Some, Result, Ok, Err}
+use Rattle.reading.specs.declared.Place.{Place}
+use Rattle.reading.specs.declared.RecordCells.{RecordCells}
 use Rattle.reading.specs.Cells.{place_at, other_item, listed_from}
 use Rattle.reading.specs.declared.Scanned.{Scanned}
 use Rattle.reading.specs.declared.Scanned.TheVariants as scanned
-use Rattle.reading.specs.Scan.{scan_of}
+use Rattle.reading.specs.Scan.{past, record_scan, on_header, scan_of}
 use Rattle.reading.proofs.Laws.{count_small, record_cells}
-use Rattle.reading.proofs.Scanning.{Row, Passed as PassedOver, Scan, scan_says, scan_none}
+use Rattle.reading.proofs.Scanning.{Row, Scan, scan_says}
 use Rattle.cell_addresses.specs.Addresses as addresses
 use Rattle.cell_addresses.specs.Addresses.{address_in, has_in, twice_among}
-use Rattle.address_twice.specs.declared.Window.{Window}
-use Rattle.address_twice.specs.declared.Window.TheVariants as window
+use Rattle.address_twice.specs.declared.rows.Stop.{Stop}
+use Rattle.address_twice.specs.declared.rows.Stop.TheVariants.{Twice, Odd}
 use Rattle.address_twice.specs.Doubles.{again, run, window_size, inside, slot_of, taken, Empty, Fits, Clash, Met, Marked, Before, Ahead, Kept, Stepped, Clear, PastClear, Once, Passed}
 
 -- ---- an address with two cells
@@ -221,23 +221,25 @@ module _ (m₀ : List ℕ) (low a n : ℕ) (m : List ℕ) (k : ℕ) (f : Marking
               let now : taken m low b ≡ taken m' low b = pick_false _ _ _ (eqb (a + k) b) e refl ∙ sym (set b i) in
               sym (pick_false _ _ _ (eqb (a + k) b) e refl) ∙ ap (run b (a + (k + 1)) (n - (k + 1)) z) now
 
+pub ruleset mark_laws = (mark_start, mark_done, mark_fits, mark_found, mark_turn)
+
 -- ---- one record
 -- it is outside the window
 kept : (m : List ℕ) (low next a n next' : ℕ) → next' ≤ next → (Ahead low next → Ahead low next') → ((b : ℕ) → low ≤ b → Before b next' → Apart b a n) → Kept m low next a n m next'
 kept m low next a n next' h f g = record { size = refl; ahead = f; before = h; all = λ b z i j. run_apart b a n z (taken m low b) (g b i j) }
 
-module _ (m : List ℕ) (low next row first n : ℕ) (whole : low % 65536 ≡ 0) (f c y : ℕ) (f-is : f ≡ first) (c-is : c ≡ n) (y-is : y ≡ row) (small : y < 65536) (narrow : f + c ≤ 256) where
+module _ (m : List ℕ) (low next row first n : ℕ) (whole : low % 65536 ≡ 0) (f c y : ℕ) (f-is : f ≡ first) (c-is : c ≡ n) (y-is : y ≡ row) (narrow : f + c ≤ 256) where
   pub step_below : y * 65536 < low → Kept m low next (row * 65536 + first) n m next
   step_below h = kept m low next (row * 65536 + first) n next (omega arith) (λ x. x) (λ b i j. inr (omega arith))
 
-  pub step_after : low + 100663296 ≤ y * 65536 → (r : ℕ) → r ≡ min (y * 65536) next → Kept m low next (row * 65536 + first) n m r
-  step_after h r e =
-      kept m low next (row * 65536 + first) n r (omega arith) (λ x. let p = x.past in let q = x.round in let t = x.top in record { past = λ i. by p (ltb next (y * 65536)) refl; round = omega arith; top = omega arith })
+  pub step_after : row < 65536 → low + 100663296 ≤ y * 65536 → (r : ℕ) → r ≡ min (y * 65536) next → Kept m low next (row * 65536 + first) n m r
+  step_after small h r e =
+      kept m low next (row * 65536 + first) n r (omega arith) (λ x. let p = x.past in let q = x.round in let t = x.top in record { past = λ i. by p i (ltb next (y * 65536)) refl; round = omega arith; top = omega arith })
       (λ b i j. let k : b < r = j (omega arith) in inl (omega arith))
     where
-      by : (next < 4294967296 → low + window_size ≤ next) → (t : Bool) → ltb next (y * 65536) ≡ t → low + window_size ≤ r
-      by p true i = let j = ltb-true next (y * 65536) i in let k = p (omega arith) in omega arith
-      by p false i = let j = ltb-false next (y * 65536) i in omega arith
+      by : (next < 4294967296 → low + window_size ≤ next) → r < 4294967296 → (t : Bool) → ltb next (y * 65536) ≡ t → low + window_size ≤ r
+      by p o true i = let j = ltb-true next (y * 65536) i in let k = p (omega arith) in omega arith
+      by p o false i = let j = ltb-false next (y * 65536) i in omega arith
 
   module _ (from : low ≤ y * 65536) (to : y * 65536 < low + 100663296) where
     pub step_fits : Fits low (y * 65536 + f) c
@@ -265,19 +267,21 @@ module _ (s : List ℕ) (at k z e : ℕ) (h : header_at s at ≡ Record k z e) (
   abbrev cells : ℕ → List Cell
   cells j = cells_from (field_of (shape_of k)) s (row_at s at) (first_at s at) (at + 8) j
 
-  on : outside_item (outside.Next e 0) ≡ other_item (place_at 0 0) k e
-  unfolding other_item place_at
-  on = pick_ne _ _ _ k 0x0809 begin (pick_ne _ _ _ k 0x000A end refl)
+  scanned_past : n ≡ 0 → scan_of s at 0 ≡ Some (scanned.Past (place_at e 0))
+  unfolding scan_of record_scan other_item place_at
+  scanned_past none =
+      ap (on_header s at 0) h
+      ∙ sym (pick_eq _ _ _ 0 0 refl (pick_eq _ _ _ n 0 none (ap past (pick_ne _ _ _ k 0x0809 begin (pick_ne _ _ _ k 0x000A end refl)))))
 
   -- its cells come first, be they none
   listed : listed_from s (place_at at 0) ≡ cells n ++ listed_from s (place_at e 0)
-  unfolding cells_of cells_from
+  unfolding cells_of cells_from place_at
   listed = by (eqb n 0) refl
     where
       by : (t : Bool) → eqb n 0 ≡ t → listed_from s (place_at at 0) ≡ cells n ++ listed_from s (place_at e 0)
       by true i =
           let none = eqb-true n 0 i in
-          let x : PassedOver s at 0 (outside.Next e 0) = subst (Scan s at 0) (sym (scan_none s at 0 {r = header_at s at} refl k z e h (outside.Next e 0) on n refl refl none)) (scan_says s at 0) in
+          let x : Scan s at 0 (Some (scanned.Past (place_at e 0))) = subst (Scan s at 0) (scanned_past none) (scan_says s at 0) in
           x.0 ∙ ap (λ (j : ℕ). cells j ++ listed_from s (place_at e 0)) (sym none)
       by false i = let some = eqb-false n 0 i in record_cells s at k z e h (omega arith)
 
@@ -346,71 +350,70 @@ pass_start s from low m e o = record {
 }
 
 pub no_flags : (n : ℕ) → Empty (replicate n 0)
-unfolding flag_at zeros
+unfolding flag_at
 no_flags n j = ap (λ (w : ℕ). bit_at w (j % 64)) (no_marks n (j / 64)) ∙ flag_none 0 j
 
-module _ (s : List ℕ) (l : List Cell) (low : ℕ) (m : List ℕ) (at level next : ℕ) (p : Passing s l low m at level next) (here : ℕ) (q : PastClear s level at low next here) (r : Scanned) (is : r ≡ scan_of s here level) where
+module _ (s : List ℕ) (l : List Cell) (low : ℕ) (m : List ℕ) (at level next : ℕ) (p : Passing s l low m at level next) (here : ℕ) (q : PastClear s level at low next here) (r : Option Scanned) (is : r ≡ scan_of s here level) where
   scanned_says : Scan s here level r
   scanned_says = subst⁻¹ (Scan s here level) is (scan_says s here level)
 
   from_here : (b : ℕ) → low ≤ b → Before b next → again false b l ≡ again (taken m low b) b (listed_from s (place_at here level))
   from_here b i j = p.all b i j ∙ q.all (taken m low b) b i j
 
-  module _ (id row first n after : ℕ) (h : r ≡ scanned.Cells id row first n after) where
-    row_scanned : (level ≡ 0) × Row s here id row first n after
-    row_scanned = subst (Scan s here level) h scanned_says
+  module _ (y₀ : Scanned) (g : r ≡ Some y₀) (c : RecordCells) (h : y₀ ≡ scanned.Cells c) where
+    row_scanned : (level ≡ 0) × Row s here c
+    row_scanned = subst (Scan s here level) (g ∙ ap Some h) scanned_says
 
-    pub row_nearer : length s - after < length s - at
+    pub row_nearer : length s - c.next < length s - at
     row_nearer = let x = row_scanned.1 in let v = x.ahead in let w = x.within in let u = q.ahead in omega arith
 
-    row_run : (b : ℕ) → low ≤ b → Before b next → again false b l ≡ run b (row * 65536 + first) n (λ t. again t b (listed_from s (place_at after level))) (taken m low b)
+    row_run : (b : ℕ) → low ≤ b → Before b next → again false b l ≡ run b (c.row * 65536 + c.first) c.count (λ t. again t b (listed_from s (place_at c.next level))) (taken m low b)
     unfolding cells_of
     row_run b i j =
         let x = row_scanned.1 in
         let z = row_scanned.0 in
-        let rest = listed_from s (place_at after 0) in
-        let e : row_at s here * 65536 + first_at s here ≡ row * 65536 + first = (let u = x.row_is in let v = x.first_is in omega arith) in
+        let rest = listed_from s (place_at c.next 0) in
+        let e : row_at s here * 65536 + first_at s here ≡ c.row * 65536 + c.first = (let u = x.row_is in let v = x.first_is in omega arith) in
         from_here b i j ∙ ap (λ (v : ℕ). again (taken m low b) b (listed_from s (place_at here v))) z ∙ ap (again (taken m low b) b) x.list
-        ∙ run_is (field_of (shape_of id)) s (row_at s here) (first_at s here) (here + 8) (count_of (shape_of id) s here x.size) b rest (taken m low b)
+        ∙ run_is (field_of (shape_of c.id)) s (row_at s here) (first_at s here) (here + 8) (count_of (shape_of c.id) s here x.size) b rest (taken m low b)
         ∙ ap₂ (λ (u v : ℕ). run b u v (λ t. again t b rest) (taken m low b)) e (sym x.count)
-        ∙ ap (λ (v : ℕ). run b (row * 65536 + first) n (λ t. again t b (listed_from s (place_at after v))) (taken m low b)) (sym z)
+        ∙ ap (λ (v : ℕ). run b (c.row * 65536 + c.first) c.count (λ t. again t b (listed_from s (place_at c.next v))) (taken m low b)) (sym z)
 
-    module _ (x : Window) (m' : List ℕ) (k : Stepped m low next (row * 65536 + first) n m' x) where
-      pub pass_on : (next' : ℕ) → x ≡ window.On next' → Passing s l low m' after level next'
+    module _ (x : Result ℕ Stop) (m' : List ℕ) (k : Stepped m low next (c.row * 65536 + c.first) c.count m' x) where
+      pub pass_on : (next' : ℕ) → x ≡ Ok next' → Passing s l low m' c.next level next'
       pass_on next' e =
-          let y : Kept m low next (row * 65536 + first) n m' next' = subst (Stepped m low next (row * 65536 + first) n m') e k in
+          let y : Kept m low next (c.row * 65536 + c.first) c.count m' next' = subst (Stepped m low next (c.row * 65536 + c.first) c.count m') e k in
           record {
             size = y.size ∙ p.size;
             ahead = y.ahead p.ahead;
-            all = λ b i j. row_run b i (λ o. let z = y.before in let w = j (omega arith) in omega arith) ∙ y.all b (λ t. again t b (listed_from s (place_at after level))) i j;
+            all = λ b i j. row_run b i (λ o. let z = y.before in let w = j (omega arith) in omega arith) ∙ y.all b (λ t. again t b (listed_from s (place_at c.next level))) i j;
           }
 
-      pub pass_twice : x ≡ window.Twice → twice_among l ≡ true
-      pass_twice e =
-          let y : Clash m low (row * 65536 + first) n = subst (Stepped m low next (row * 65536 + first) n m') e k in
+      pub pass_stop : (e : Stop) → x ≡ Err e → Passed l low (Err e)
+      pass_stop Twice e =
+          let y : Clash m low (c.row * 65536 + c.first) c.count = subst (Stepped m low next (c.row * 65536 + c.first) c.count m') e k in
           let b = y.address in
           again_twice b l
-          (row_run b y.after (λ o. let z = p.ahead.past o in let w = y.before in omega arith) ∙ y.met (λ t. again t b (listed_from s (place_at after level))))
+          (row_run b y.after (λ o. let z = p.ahead.past o in let w = y.before in omega arith) ∙ y.met (λ t. again t b (listed_from s (place_at c.next level))))
+      pass_stop Odd e = tt
 
-  module _ (o : Outside) (h : r ≡ scanned.None o) where
-    none_scanned : PassedOver s here level o
-    none_scanned = subst (Scan s here level) h scanned_says
+  module _ (y₀ : Scanned) (g : r ≡ Some y₀) (v : Place) (h : y₀ ≡ scanned.Past v) where
+    over_scanned : (listed_from s (place_at here level) ≡ listed_from s (place_at v.at v.level)) × (here < v.at) × (v.at ≤ length s)
+    over_scanned = subst (Scan s here level) (g ∙ ap Some h) scanned_says
 
-    pub none_on : (e v : ℕ) → o ≡ outside.Next e v → Passing s l low m e v next
-    none_on e v i =
-        let x : PassedOver s here level (outside.Next e v) = subst (PassedOver s here level) i none_scanned in
-        record { size = p.size; ahead = p.ahead; all = λ b j k. from_here b j k ∙ ap (again (taken m low b) b) x.0 }
+    pub over_on : Passing s l low m v.at v.level next
+    over_on = record { size = p.size; ahead = p.ahead; all = λ b j k. from_here b j k ∙ ap (again (taken m low b) b) over_scanned.0 }
 
-    pub none_nearer : (e v : ℕ) → o ≡ outside.Next e v → length s - e < length s - at
-    none_nearer e v i = let x : PassedOver s here level (outside.Next e v) = subst (PassedOver s here level) i none_scanned in let u = q.ahead in omega arith
+    pub over_nearer : length s - v.at < length s - at
+    over_nearer = let x = over_scanned.1 in let w = over_scanned.2 in let u = q.ahead in omega arith
 
-    pub none_end : o ≡ outside.End → Once l low next
-    unfolding again
-    none_end i =
-        let x : listed_from s (place_at here level) ≡ [] = subst (PassedOver s here level) i none_scanned in
-        record { ahead = p.ahead; once = λ b j k. from_here b j k ∙ ap (again (taken m low b) b) x }
+  pub none_end : r ≡ None → Once l low next
+  unfolding again
+  none_end h =
+      let x : listed_from s (place_at here level) ≡ [] = subst (Scan s here level) h scanned_says in
+      record { ahead = p.ahead; once = λ b j k. from_here b j k ∙ ap (again (taken m low b) b) x }
 
-pub ruleset pass_laws = (pass_start, row_nearer, pass_on, pass_twice, none_on, none_nearer, none_end)
+pub ruleset pass_laws = (pass_start, row_nearer, pass_on, pass_stop, over_on, over_nearer, none_end)
 
 -- ---- window after window
 abbrev pub OnceBelow : List Cell → ℕ → Type 0
@@ -419,7 +422,7 @@ OnceBelow l low = (low % 65536 ≡ 0) × (low ≤ 4294967296) × ((b : ℕ) → 
 pub below_start : (l : List Cell) → OnceBelow l 0
 below_start l = (refl, omega arith, λ b h. let z = h (omega arith) in absurd (omega arith))
 
-pub below_on : (l : List Cell) (low : ℕ) → OnceBelow l low → low < 4294967296 → (x : Window) (next : ℕ) → Passed l low x → x ≡ window.On next → OnceBelow l next
+pub below_on : (l : List Cell) (low : ℕ) → OnceBelow l low → low < 4294967296 → (x : Result ℕ Stop) (next : ℕ) → Passed l low x → x ≡ Ok next → OnceBelow l next
 below_on l low f g x next k e =
     let y : Once l low next = subst (Passed l low) e k in
     (y.ahead.round, y.ahead.top, λ b h. by y b (ltb b low) refl h)
@@ -428,7 +431,7 @@ below_on l low f g x next k e =
     by y b true i h = f.2 b (λ _. ltb-true _ _ i)
     by y b false i h = y.once b (ltb-false _ _ i) h
 
-pub below_nearer : (l : List Cell) (low : ℕ) (x : Window) (next : ℕ) → low < 4294967296 → Passed l low x → x ≡ window.On next → 4294967296 - next < 4294967296 - low
+pub below_nearer : (l : List Cell) (low : ℕ) (x : Result ℕ Stop) (next : ℕ) → low < 4294967296 → Passed l low x → x ≡ Ok next → 4294967296 - next < 4294967296 - low
 below_nearer l low x next g k e =
     let y : Once l low next = subst (Passed l low) e k in
     by y.ahead (ltb next 4294967296) refl
@@ -437,7 +440,7 @@ below_nearer l low x next g k e =
     by a true i = let p : low + window_size ≤ next = a.past (ltb-true _ _ i) in omega arith
     by a false i = let p = ltb-false next 4294967296 i in omega arith
 
-pub below_twice : (l : List Cell) (low : ℕ) (x : Window) → Passed l low x → x ≡ window.Twice → true ≡ twice_among l
+pub below_twice : (l : List Cell) (low : ℕ) (x : Result ℕ Stop) → Passed l low x → x ≡ Err Twice → true ≡ twice_among l
 below_twice l low x k e = sym (subst (Passed l low) e k)
 
 pub below_all : (l : List Cell) (low : ℕ) → OnceBelow l low → 4294967296 ≤ low → false ≡ twice_among l

@@ -1,13 +1,13 @@
 -- What the contracts speak of: a flag for each address of a window of 1,536 rows and 256 columns, set where a cell was met.
-use Rattle.std.specs.Prelude.{ℕ, zero, suc, ◌+◌, ◌-◌, ◌*◌, ◌/◌, ◌%◌, ◌≤◌, ◌<◌, ◌≡◌, ◌⊎◌, Bool, true, false, List, [], ◌∷◌, length, ltb, eqb}
+use Rattle.std.specs.Prelude.{ℕ, zero, suc, ◌+◌, ◌-◌, ◌*◌, ◌/◌, ◌%◌, ◌≤◌, ◌<◌, ◌≡◌, ◌⊎◌, Bool, true, false, List, [], ◌∷◌, length, ltb, eqb, Result, Ok, Err}
 use Rattle.steps.specs.Choice.{pick}
 use Rattle.flags.specs.Flags.{flag_at}
 use Rattle.cell.specs.declared.Cell.{Cell}
 use Rattle.cell.specs.Cells.{row_at, first_at}
 use Rattle.reading.specs.Cells.{place_at, listed_from}
 use Rattle.cell_addresses.specs.Addresses.{address_in, twice_among}
-use Rattle.address_twice.specs.declared.Window.{Window}
-use Rattle.address_twice.specs.declared.Window.TheVariants as window
+use Rattle.address_twice.specs.declared.rows.Stop.{Stop}
+use Rattle.address_twice.specs.declared.rows.Stop.TheVariants.{Twice, Odd}
 
 -- the address has two or more cells, with one that was met before the list where t says so
 unfoldable pub again : Bool → ℕ → List Cell → Bool
@@ -72,10 +72,10 @@ pub record Kept (m : List ℕ) (low next a n : ℕ) (m' : List ℕ) (next' : ℕ
   pub before : next' ≤ next
   pub all : (b : ℕ) (z : Bool → Bool) → low ≤ b → Before b next' → run b a n z (taken m low b) ≡ z (taken m' low b)
 
-abbrev pub Stepped : List ℕ → ℕ → ℕ → ℕ → ℕ → List ℕ → Window → Type 0
-Stepped m low next a n m' (window.On next') = Kept m low next a n m' next'
-Stepped m low next a n m' window.Twice = Clash m low a n
-Stepped m low next a n m' window.Odd = Unit {0}
+abbrev pub Stepped : List ℕ → ℕ → ℕ → ℕ → ℕ → List ℕ → Result ℕ Stop → Type 0
+Stepped m low next a n m' (Ok next') = Kept m low next a n m' next'
+Stepped m low next a n m' (Err Twice) = Clash m low a n
+Stepped m low next a n m' (Err Odd) = Unit {0}
 
 -- a record that is too short for a cell, or whose cells, at most 256, are before address `low` or from `high` on
 abbrev pub Clear : List ℕ → ℕ → ℕ → ℕ → ℕ → Bool → Type 0
@@ -92,7 +92,7 @@ pub record Once (l : List Cell) (low next : ℕ) : Type 0 where
   pub ahead : Ahead low next
   pub once : (b : ℕ) → low ≤ b → Before b next → again false b l ≡ false
 
-abbrev pub Passed : List Cell → ℕ → Window → Type 0
-Passed l low (window.On next) = Once l low next
-Passed l low window.Twice = twice_among l ≡ true
-Passed l low window.Odd = Unit {0}
+abbrev pub Passed : List Cell → ℕ → Result ℕ Stop → Type 0
+Passed l low (Ok next) = Once l low next
+Passed l low (Err Twice) = twice_among l ≡ true
+Passed l low (Err Odd) = Unit {0}

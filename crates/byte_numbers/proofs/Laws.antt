@@ -1,55 +1,41 @@
 -- Laws of little-endian numbers: put together, stored, and read in two streams that agree. Assumes nothing.
 use Prim.Native.Nat.{ℕ, zero, suc, ◌+◌, ◌-◌, ◌*◌, ◌/◌, ◌%◌, ◌^◌, ◌≤◌, ◌<◌}
 use mathlib.Core.Path.{◌≡◌, refl, sym, ap, ap₂, ◌∙◌}
-use mathlib.Core.List.{List, [], ◌∷◌}
+use mathlib.Core.List.{List, [], ◌∷◌, append_assoc}
 use mathlib.Core.Logic.{◌⊎◌, inl, inr}
 use native.Mathlib.Numerals.{add-one}
 use native.Mathlib.Omega.{arith}
-use native.Mathlib.Nat.{add_assoc}
-use lib.ListN.{length, get_or, set, length-set, take, drop, get_or-eq_default}
+use lib.ListN.{length, get_or, set, length-set, take, drop, length-take, length-drop}
+use borrow.Rule.Slice.PartMut.{put_mid}
+use Rattle.std.proofs.lemmas.List.{drop-drop}
+use Rattle.std.proofs.lemmas.List.Edits.{sets-eq}
 use lib.Seq.{sets, drop-cons, get_or-set_same, get_or-set_other}
-use Rattle.byte_numbers.specs.Bytes.{num_at, u16_at, u32_at, u64_at, bytes_at, bytes_of}
+use Rattle.byte_numbers.specs.Bytes.{num_at, bytes_at, bytes_of}
 
--- ---- a number from its halves, as they are read
-pub u32_halves : (s : List ℕ) (p : ℕ) {a b x y : ℕ} → a ≡ u16_at s p → x ≡ a → b ≡ u16_at s (p + 2) → y ≡ b → x + y * 65536 ≡ u32_at s p
-unfolding num_at
-u32_halves s p h i j k = rw (i, k, h, j) (simp add_assoc (omega arith))
-
-pub u64_halves : (s : List ℕ) (p : ℕ) {a b x y : ℕ} → a ≡ u32_at s p → x ≡ a → b ≡ u32_at s (p + 4) → y ≡ b → x + y * 4294967296 ≡ u64_at s p
-unfolding num_at
-u64_halves s p h i j k = rw (i, k, h, j) (simp add_assoc (omega arith))
-
--- ---- past the end
-pub byte_none : (s : List ℕ) (i : ℕ) → length s ≤ i → 0 ≡ get_or s i 0
-byte_none s i h = sym (get_or-eq_default s 0 h)
-
--- ---- a number stored byte by byte
-pub put_step : (x s : List ℕ) (at w n b : ℕ) → x ≡ sets s at (bytes_of w n) → 0 < w → b ≡ n % 256 → x ≡ sets (set s at b) (at + 1) (bytes_of (w - 1) (n / 256))
+-- ---- a number stored byte by byte, up to the byte e
+pub store_step : (s : List ℕ) (to e n : ℕ) → to < e → sets s to (bytes_of (e - to) n) ≡ sets (set s to (n % 256)) (to + 1) (bytes_of (e - (to + 1)) (n / 256))
 unfolding bytes_of
-put_step x s at w n b inv h e =
-    let w-is : w ≡ suc (w - 1) = omega arith in
-    inv ∙ ap (λ (m : ℕ). sets s at (bytes_of m n)) w-is ∙ ap (λ (m : ℕ). sets (set s at m) (suc at) (bytes_of (w - 1) (n / 256))) (sym e) ∙ ap (λ (m : ℕ). sets (set s at b) m (bytes_of (w - 1) (n / 256))) (sym (add-one at))
+store_step s to e n h = let left : e - to ≡ suc (e - (to + 1)) = omega arith in rw (left, add-one)
 
-pub put_end : (x s : List ℕ) (at w n : ℕ) → x ≡ sets s at (bytes_of w n) → w ≤ 0 → s ≡ x
+pub store_end : (s : List ℕ) (to e n : ℕ) → e ≤ to → sets s to (bytes_of (e - to) n) ≡ s
 unfolding bytes_of
-put_end x s at w n inv h = let w-is : w ≡ 0 = omega arith in sym (inv ∙ ap (λ (m : ℕ). sets s at (bytes_of m n)) w-is)
+store_end s to e n h = let left : e - to ≡ 0 = omega arith in rw left
 
--- ---- bytes copied one after the other
+-- ---- bytes
 pub bytes_first : (s : List ℕ) (p n : ℕ) → p < length s → 0 < n → bytes_at s p n ≡ get_or s p 0 ∷ bytes_at s (p + 1) (n - 1)
 unfolding bytes_at
 bytes_first s p n h z =
     let a : n ≡ suc (n - 1) = omega arith in
     ap₂ take a (drop-cons s p 0 h) ∙ ap (λ (k : ℕ). get_or s p 0 ∷ take (n - 1) (drop k s)) (sym (add-one p))
 
-pub copy_step : (x o s : List ℕ) (to of left b : ℕ) → x ≡ sets o to (bytes_at s of left) → 0 < left → of + left ≤ length s → b ≡ get_or s of 0 → x ≡ sets (set o to b) (to + 1) (bytes_at s (of + 1) (left - 1))
-copy_step x o s to of left b inv h l e =
-    inv ∙ ap (sets o to) (bytes_first s of left (omega arith) h)
-    ∙ ap (λ (n : ℕ). sets (set o to n) (suc to) (bytes_at s (of + 1) (left - 1))) (sym e)
-    ∙ ap (λ (n : ℕ). sets (set o to b) n (bytes_at s (of + 1) (left - 1))) (sym (add-one to))
-
-pub copy_end : (x o s : List ℕ) (to of left : ℕ) → x ≡ sets o to (bytes_at s of left) → left ≤ 0 → o ≡ x
+-- the n from p on put over those at `at`
+pub put_over : (s o v : List ℕ) (p n at : ℕ) → v ≡ take (p + n - p) (drop p s) → p + n ≤ length s → at + n ≤ length o → put_mid at (at + n - at) o v ≡ sets o at (bytes_at s p n)
 unfolding bytes_at
-copy_end x o s to of left inv h = let z : left ≡ 0 = omega arith in sym (inv ∙ ap (λ (n : ℕ). sets o to (take n (drop of s))) z)
+put_over s o v p n at e f h =
+    let from : p + n - p ≡ n = omega arith in
+    let to : at + n - at ≡ n = omega arith in
+    let len : length (take n (drop p s)) ≡ n = simp (length-take, length-drop) (omega arith) in
+    rw (e, from, to, sets-eq (take n (drop p s)) o at (omega arith), len, drop-drop, append_assoc)
 
 -- ---- what is there after a store
 pub length_bytes : (w n : ℕ) → length (bytes_of w n) ≡ w

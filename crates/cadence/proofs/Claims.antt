@@ -3,6 +3,9 @@ use Prim.Native.Nat.{ℕ, zero, suc, ◌+◌, ◌-◌, ◌*◌, ◌/◌, ◌%◌
 use native.Mathlib.Nat.{div-mul-le_self, div-lt_iff_lt-mul, zero-add}
 use mathlib.Core.Path.{◌≡◌, refl, sym, ap, ◌∙◌, subst}
 use mathlib.Core.List.{List, [], ◌∷◌}
+use Rattle.std.specs.Prelude.{Option, Some, None, Result, Ok, Err}
+use Rattle.refusal.specs.declared.Refusal.{Refusal}
+use Rattle.refusal.specs.Refused.{refuse}
 use mathlib.Core.Logic.{inl, inr}
 use native.Mathlib.Omega.{arith}
 use lib.ListN.{length}
@@ -11,15 +14,11 @@ use borrow.Author.Tests.{leb-true, leb-false, ltb-true, ltb-false, eqb-true, eqb
 use Rattle.steps.specs.Choice.{pick}
 use Rattle.steps.proofs.Choice.{never, pick_any, pick_by, pick_le}
 use Rattle.steps.specs.Items.{nth}
-use Rattle.number.specs.declared.Amount.{Amount}
-use Rattle.number.specs.declared.Amount.TheVariants.{Is, Unfit}
 use Rattle.reading.specs.declared.Place.{Place}
 use Rattle.cell.specs.declared.Cell.{Cell}
 use Rattle.reading.specs.Cells.{listed_from}
 use Rattle.reading.specs.Claims.{Every}
-use Rattle.profile.specs.declared.Judged.TheVariants.{Rows}
 use Rattle.profile.specs.declared.Session.{Session}
-use Rattle.profile.specs.declared.Session.TheVariants as session
 use Rattle.profile.specs.Placed.{Placed, placed_from}
 use Rattle.profile.specs.Profile.{limit_of, amount_in, on_amount, judged_from, profile_of}
 use Rattle.profile.specs.Parts.{TwoOrThree}
@@ -27,11 +26,9 @@ use Rattle.profile.proofs.Placed.{placed_cells}
 use Rattle.profile.proofs.Claims.{Session-of, is_session}
 use Rattle.cadence.specs.declared.Row.{Row}
 use Rattle.cadence.specs.declared.Cadence.{Cadence}
-use Rattle.cadence.specs.declared.Cadence.TheVariants.{Pause, Elapsed, Still, Refused}
+use Rattle.cadence.specs.declared.Cadence.TheVariants.{Pause, Elapsed, Still}
 use Rattle.cadence.specs.declared.NextRow.{NextRow}
 use Rattle.cadence.specs.declared.Position.{Position}
-use Rattle.cadence.specs.declared.Start.{Start}
-use Rattle.cadence.specs.declared.Start.TheVariants as start
 use Rattle.cadence.specs.Cadence.{number_in, row_with, by_two, by_three, rows_of, elapsed_of, measured_of, pair_of, neighbours, on_session, cadence_of}
 use Rattle.cadence.specs.Steps.{next_row_of, position_at, on_first, pairs_of, pairs_from, nth_pair}
 use Rattle.cadence.specs.Claims.{ElapsedModulo, Measured, CadenceRounded, PauseExactly, StillExactly, RowsCounted, StepsAnswer, StepsEnd, StepsNearer}
@@ -63,7 +60,7 @@ module _ (s : List ℕ) (n k : ℕ) (v : Place) (i : Session-of s n k v) where
   ahead₀ : Ahead s k n v 0 l
   ahead₀ = ahead s n v 0 0 k i.columns l listed i.judged (zero_mod k i.columns)
 
-  pairs_from_lem : (w : Place) (m : List Placed) (t : ℕ) → listed_from s w ≡ cells_in m → judged_from k (0 + k) t m ≡ Rows n → (0 + k) % k ≡ 0 → (a : Row) → pairs_from s (position_at a w k) ≡ pairs_in a (rows_of k (cells_in m))
+  pairs_from_lem : (w : Place) (m : List Placed) (t : ℕ) → listed_from s w ≡ cells_in m → judged_from k (0 + k) t m ≡ Ok n → (0 + k) % k ≡ 0 → (a : Row) → pairs_from s (position_at a w k) ≡ pairs_in a (rows_of k (cells_in m))
   pairs_from_lem w m t f g h a = pairs_are s k n i.columns (suc (length m)) m (omega arith) w (0 + k) t f g h a
 
   pairs_first : (a : Row) → pairs_from s (position_at a v k) ≡ pairs_in a rows
@@ -76,12 +73,12 @@ module _ (s : List ℕ) (n k : ℕ) (v : Place) (i : Session-of s n k v) where
   answer_by_lem : Ahead s k n v 0 l → (j : ℕ) → nth_pair s p₀ j ≡ neighbours rows j
   unfolding nth_pair pairs_in nth neighbours
   answer_by_lem (done f g o) j =
-      ap (λ (x : NextRow). nth_pair s (on_first k v x) j) g
-      ∙ ap (λ (x : List Cadence). nth x j (λ c. c) (Refused 11 0)) (pairs_first (row_with 0 0 0) ∙ ap (pairs_in (row_with 0 0 0)) f)
+      ap (λ (x : Option NextRow). nth_pair s (on_first k v x) j) g
+      ∙ ap (λ (x : List Cadence). nth x j Ok (refuse 11 0)) (pairs_first (row_with 0 0 0) ∙ ap (pairs_in (row_with 0 0 0)) f)
       ∙ ap (λ (x : List Row). neighbours x j) (sym f)
   answer_by_lem (more a w m u f g o jd q y x) j =
-      ap (λ (x : NextRow). nth_pair s (on_first k v x) j) g
-      ∙ ap (λ (x : List Cadence). nth x j (λ c. c) (Refused 11 0)) (pairs_from_lem w m u o jd y a)
+      ap (λ (x : Option NextRow). nth_pair s (on_first k v x) j) g
+      ∙ ap (λ (x : List Cadence). nth x j Ok (refuse 11 0)) (pairs_from_lem w m u o jd y a)
       ∙ pairs_nth a (rows_of k (cells_in m)) j
       ∙ ap (λ (x : List Row). neighbours x j) (sym f)
 
@@ -91,11 +88,11 @@ module _ (s : List ℕ) (n k : ℕ) (v : Place) (i : Session-of s n k v) where
   length_by : Ahead s k n v 0 l → length (pairs_from s p₀) ≡ n - 1
   unfolding pairs_in
   length_by (done f g o) =
-      let c = ap (λ (x : NextRow). length (pairs_from s (on_first k v x))) g ∙ ap length (pairs_first (row_with 0 0 0) ∙ ap (pairs_in (row_with 0 0 0)) f) in
+      let c = ap (λ (x : Option NextRow). length (pairs_from s (on_first k v x))) g ∙ ap length (pairs_first (row_with 0 0 0) ∙ ap (pairs_in (row_with 0 0 0)) f) in
       let d = sym counted ∙ ap length f in
       c ∙ (let e : 0 ≡ n - 1 = omega arith in e)
   length_by (more a w m u f g o jd q y x) =
-      let c = ap (λ (x : NextRow). length (pairs_from s (on_first k v x))) g ∙ ap length (pairs_from_lem w m u o jd y a) ∙ pairs_length a (rows_of k (cells_in m)) in
+      let c = ap (λ (x : Option NextRow). length (pairs_from s (on_first k v x))) g ∙ ap length (pairs_from_lem w m u o jd y a) ∙ pairs_length a (rows_of k (cells_in m)) in
       let d : length rows ≡ suc (length (rows_of k (cells_in m))) = ap length f in
       let e = counted in
       c ∙ (let h : length (rows_of k (cells_in m)) ≡ n - 1 = omega arith in h)
@@ -108,45 +105,44 @@ rows_counted s n k v h = ap (λ (l : List Cell). length (rows_of k l)) (sym (pla
 
 -- ---- the steps and the single question
 module _ (s : List ℕ) (n : ℕ) where
-  abbrev starts : Session → Start
-  starts = on_session start.Refused (λ k v. start.At (on_first k v (next_row_of s k v)))
+  abbrev starts : Result Session Refusal → Result Position Refusal
+  starts = on_session (λ k v. Ok (on_first k v (next_row_of s k v)))
 
-  abbrev answers : Session → Cadence
-  answers = on_session Refused (λ k v. neighbours (rows_of k (listed_from s v)) n)
+  abbrev answers : Result Session Refusal → Result Cadence Refusal
+  answers = on_session (λ k v. neighbours (rows_of k (listed_from s v)) n)
 
-  answer_at : (p : Position) (x : Session) → profile_of s ≡ x → starts x ≡ start.At p → nth_pair s p n ≡ answers x
-  answer_at p (session.Inside m k v) h e =
-      let f : on_first k v (next_row_of s k v) ≡ p = cc in
-      ap (λ (q : Position). nth_pair s q n) (sym f) ∙ first_answers s m k v (is_session s m k v h) n
-  answer_at p (session.Refused m o) h e = never (cc)
+  answer_at : (p : Position) (x : Result Session Refusal) → profile_of s ≡ x → starts x ≡ Ok p → answers x ≡ nth_pair s p n
+  answer_at p (Ok x) h e =
+      let f : on_first x.columns x.cells (next_row_of s x.columns x.cells) ≡ p = cc in
+      sym (first_answers s x.rows x.columns x.cells (is_session s x.rows x.columns x.cells h) n) ∙ ap (λ (q : Position). nth_pair s q n) f
+  answer_at p (Err e) h i = never (cc)
 
-  answer_refused : (m o : ℕ) (x : Session) → starts x ≡ start.Refused m o → Refused m o ≡ answers x
-  answer_refused m o (session.Inside j k v) e = never (cc)
-  answer_refused m o (session.Refused j q) e = let f : j ≡ m = cc in let g : q ≡ o = cc in λ i. Refused (sym f i) (sym g i)
+  answer_refused : (e : Refusal) (x : Result Session Refusal) → starts x ≡ Err e → answers x ≡ Err e
+  answer_refused e (Ok x) i = never (cc)
+  answer_refused e (Err r) i = cc
 
-  module _ {r : Start} (is : r ≡ pairs_of s) where
-    pub cadence_at : (p : Position) (y : Cadence) → r ≡ start.At p → y ≡ nth_pair s p n → y ≡ cadence_of s n
-    unfolding cadence_of pairs_of
-    cadence_at p y h g = g ∙ answer_at p (profile_of s) refl (sym is ∙ h)
+  pub cadence_at : (p : Position) → pairs_of s ≡ Ok p → cadence_of s n ≡ nth_pair s p n
+  unfolding cadence_of pairs_of
+  cadence_at p h = answer_at p (profile_of s) refl h
 
-    pub cadence_refused : (m o : ℕ) → r ≡ start.Refused m o → Refused m o ≡ cadence_of s n
-    unfolding cadence_of pairs_of
-    cadence_refused m o h = answer_refused m o (profile_of s) (sym is ∙ h)
+  pub cadence_refused : (e : Refusal) → pairs_of s ≡ Err e → cadence_of s n ≡ Err e
+  unfolding cadence_of pairs_of
+  cadence_refused e h = answer_refused e (profile_of s) h
 
 pub ruleset cadence_laws = (cadence_at, cadence_refused)
 
 pub steps_answer : StepsAnswer
-steps_answer s p h n = cadence_at s n refl p (nth_pair s p n) h refl
+steps_answer s p h n = sym (cadence_at s n p h)
 
 pub steps_end : StepsEnd
 unfolding pairs_of
 steps_end s p n k v h i =
-    let e : start.At (on_first k v (next_row_of s k v)) ≡ start.At p = ap (starts s 0) (sym i) ∙ h in
+    let e : Ok (on_first k v (next_row_of s k v)) ≡ Ok p = ap (starts s 0) (sym i) ∙ h in
     let f : on_first k v (next_row_of s k v) ≡ p = cc in
     ap (λ (q : Position). length (pairs_from s q)) (sym f) ∙ first_length s n k v (is_session s n k v i)
 
 pub steps_nearer : StepsNearer
-steps_nearer s p q a h = pair_less s p refl a q h
+steps_nearer s p q a h = pair_less s p (record { answer = a; next = q }) h
 
 -- ---- elapsed
 pub elapsed_modulo : ElapsedModulo
@@ -214,19 +210,19 @@ module _ (x y c : ℕ) where
       pick_any Says (leb 64 (b.seconds - a.seconds)) (λ e. never (cc))
       (measured_right (elapsed_of a.ticks b.ticks) (elapsed_of a.turns b.turns) (elapsed_modulo a.ticks b.ticks h.0 i.0).0 (elapsed_modulo a.turns b.turns h.1 i.1).0)
 
-  neighbours_right : (l : List Row) → Every Small l → (n : ℕ) → Says (neighbours l n)
+  neighbours_right : (l : List Row) → Every Small l → (n : ℕ) → neighbours l n ≡ Ok (Elapsed x y c) → Measured x y c
   unfolding neighbours
   neighbours_right [] h n e = never (cc)
   neighbours_right (a ∷ []) h n e = never (cc)
-  neighbours_right (a ∷ b ∷ l) h zero e = pair_right a b h.0 h.1.0 e
+  neighbours_right (a ∷ b ∷ l) h zero e = pair_right a b h.0 h.1.0 (cc)
   neighbours_right (a ∷ b ∷ l) h (suc n) e = neighbours_right (b ∷ l) h.1 n e
 
   number_small : (column : ℕ) (z : Cell) → limit_of column < 65536 → number_in column z < 65536
   number_small column z f = go (amount_in column z.value) refl
     where
-      go : (a : Amount) → amount_in column z.value ≡ a → on_amount 0 (λ n. n) a < 65536
-      go (Is n) h = let l = number_within column n z.value h in omega arith
-      go Unfit h = omega arith
+      go : (a : Option ℕ) → amount_in column z.value ≡ a → on_amount 0 (λ n. n) a < 65536
+      go (Some n) h = let l = number_within column n z.value h in omega arith
+      go None h = omega arith
 
   row_small : (p q : Cell) (n : ℕ) → Small (row_with (number_in 0 p) (number_in 1 q) n)
   unfolding row_with limit_of pick
@@ -249,9 +245,9 @@ module _ (x y c : ℕ) where
   unfolding rows_of
   small_rows k l = pick_any (Every Small) (eqb k 3) (small_three l) (small_two l)
 
-  session_right : (s : List ℕ) (n : ℕ) (z : Session) → Says (answers s n z)
-  session_right s n (session.Inside m k v) e = neighbours_right (rows_of k (listed_from s v)) (small_rows k (listed_from s v)) n e
-  session_right s n (session.Refused m o) e = never (cc)
+  session_right : (s : List ℕ) (n : ℕ) (z : Result Session Refusal) → answers s n z ≡ Ok (Elapsed x y c) → Measured x y c
+  session_right s n (Ok z) e = neighbours_right (rows_of z.columns (listed_from s z.cells)) (small_rows z.columns (listed_from s z.cells)) n e
+  session_right s n (Err r) e = never (cc)
 
 pub cadence_rounded : CadenceRounded
 unfolding cadence_of

@@ -2,6 +2,10 @@
 use Prim.Native.Nat.{ℕ, zero, suc, ◌+◌, ◌-◌, ◌/◌, ◌%◌, ◌≤◌, ◌<◌}
 use mathlib.Core.Path.{◌≡◌, refl, sym, ap, ◌∙◌, subst}
 use mathlib.Core.List.{List, [], ◌∷◌, map}
+use Rattle.std.specs.Prelude.{Option, Some, None, option_map, Result, Ok, ok_or}
+use Rattle.std.specs.List.{slice_get}
+use Rattle.refusal.specs.declared.Refusal.{Refusal}
+use Rattle.refusal.specs.Refused.{refuse}
 use mathlib.Core.Logic.{inl, inr}
 use native.Mathlib.Omega.{arith}
 use lib.ListN.{length}
@@ -10,56 +14,52 @@ use Rattle.steps.specs.Choice.{pick}
 use Rattle.steps.proofs.Choice.{never, pick_by}
 use Rattle.steps.specs.Items.{onto, nth}
 use Rattle.steps.proofs.Items.{Nearer, collect_step, nth_none, nth_here, nth_next}
-use Rattle.number.specs.declared.Amount.{Amount}
-use Rattle.number.specs.declared.Amount.TheVariants.{Is}
 use Rattle.cell.specs.declared.Cell.{Cell}
 use Rattle.reading.specs.declared.Place.{Place}
 use Rattle.reading.specs.Cells.{remaining, listed_from}
 use Rattle.listing.specs.declared.Listed.{Listed}
-use Rattle.listing.specs.declared.Listed.TheVariants as listed
 use Rattle.listing.specs.Listing.{next_of}
 use Rattle.listing.proofs.Laws.{on_listed, listed_next}
-use Rattle.profile.specs.declared.Judged.TheVariants.{Rows}
 use Rattle.profile.specs.Placed.{Placed}
 use Rattle.profile.specs.Profile.{amount_in, on_amount, judged_from}
 use Rattle.profile.specs.Parts.{TwoOrThree}
 use Rattle.profile.proofs.Claims.{right_cell, ended_rows}
 use Rattle.cadence.specs.declared.Row.{Row}
 use Rattle.cadence.specs.declared.Cadence.{Cadence}
-use Rattle.cadence.specs.declared.Cadence.TheVariants.{Refused}
 use Rattle.cadence.specs.declared.NextNumber.{NextNumber}
-use Rattle.cadence.specs.declared.NextNumber.TheVariants as next_number
 use Rattle.cadence.specs.declared.NextRow.{NextRow}
-use Rattle.cadence.specs.declared.NextRow.TheVariants as next_row
 use Rattle.cadence.specs.declared.Position.{Position}
 use Rattle.cadence.specs.declared.NextPair.{NextPair}
-use Rattle.cadence.specs.declared.NextPair.TheVariants as next_pair
 use Rattle.cadence.specs.Cadence.{number_in, row_with, by_two, by_three, rows_of, pair_of, neighbours}
 use Rattle.cadence.specs.Steps.{next_number_of, on_number, seconds_row, next_row_of, position_at, on_row, next_pair_of, pair_item, pairs_from, nth_pair}
 use Rattle.cadence.proofs.Laws.{number_nearer, number_is, number_end, row_short, row_long, row_by, no_ticks}
 
 -- ---- each step comes nearer the end
-module _ (s : List ℕ) (k : ℕ) (b : Row) (w : Place) where
-  nearer_seconds : (t u : ℕ) (v : Place) → seconds_row s k t u v ≡ next_row.Row b w → remaining s w ≤ remaining s v
+module _ (s : List ℕ) (k : ℕ) (r : NextRow) where
+  nearer_seconds : (t u : ℕ) (v : Place) → seconds_row s k t u v ≡ Some r → remaining s r.next ≤ remaining s v
   unfolding seconds_row
   nearer_seconds t u v =
-      pick_by (λ (x : NextRow). x ≡ next_row.Row b w → remaining s w ≤ remaining s v) (eqb k 3)
+      pick_by (λ (x : Option NextRow). x ≡ Some r → remaining s r.next ≤ remaining s v) (eqb k 3)
       (λ _. by (next_number_of s 2 v) refl)
-      (λ _ e. let f : v ≡ w = cc in let g = ap (remaining s) f in omega arith)
+      (λ _ e. let same : ◌≡◌ {A = NextRow} (record { row = row_with t u 0; next = v }) r = cc in let g = ap (λ (x : NextRow). remaining s x.next) same in omega arith)
     where
-      by : (x : NextNumber) → next_number_of s 2 v ≡ x → on_number x (λ n y. next_row.Row (row_with t u n) y) ≡ next_row.Row b w → remaining s w ≤ remaining s v
-      by (next_number.Number n y) i e = let f : y ≡ w = cc in let g = ap (remaining s) f in let l = number_nearer s 2 v n y i in omega arith
-      by next_number.Absent i e = never (cc)
+      by : (x : Option NextNumber) → next_number_of s 2 v ≡ x → on_number x (λ n y. Some (record { row = row_with t u n; next = y })) ≡ Some r → remaining s r.next ≤ remaining s v
+      by (Some y) i e =
+          let same : ◌≡◌ {A = NextRow} (record { row = row_with t u y.number; next = y.next }) r = cc in
+          let g = ap (λ (x : NextRow). remaining s x.next) same in
+          let l = number_nearer s 2 v y i in
+          omega arith
+      by None i e = never (cc)
 
-  nearer_turns : (t : ℕ) (v : Place) (x : NextNumber) → next_number_of s 1 v ≡ x → on_number x (λ u y. seconds_row s k t u y) ≡ next_row.Row b w → remaining s w < remaining s v
-  nearer_turns t v (next_number.Number n y) i e = let l = number_nearer s 1 v n y i in let m = nearer_seconds t n y e in omega arith
-  nearer_turns t v next_number.Absent i e = never (cc)
+  nearer_turns : (t : ℕ) (v : Place) (x : Option NextNumber) → next_number_of s 1 v ≡ x → on_number x (λ u y. seconds_row s k t u y) ≡ Some r → remaining s r.next < remaining s v
+  nearer_turns t v (Some y) i e = let l = number_nearer s 1 v y i in let m = nearer_seconds t y.number y.next e in omega arith
+  nearer_turns t v None i e = never (cc)
 
-  nearer_ticks : (v : Place) (x : NextNumber) → next_number_of s 0 v ≡ x → on_number x (λ t y. on_number (next_number_of s 1 y) (λ u z. seconds_row s k t u z)) ≡ next_row.Row b w → remaining s w < remaining s v
-  nearer_ticks v (next_number.Number n y) i e = let l = number_nearer s 0 v n y i in let m = nearer_turns n y (next_number_of s 1 y) refl e in omega arith
-  nearer_ticks v next_number.Absent i e = never (cc)
+  nearer_ticks : (v : Place) (x : Option NextNumber) → next_number_of s 0 v ≡ x → on_number x (λ t y. on_number (next_number_of s 1 y) (λ u z. seconds_row s k t u z)) ≡ Some r → remaining s r.next < remaining s v
+  nearer_ticks v (Some y) i e = let l = number_nearer s 0 v y i in let m = nearer_turns y.number y.next (next_number_of s 1 y.next) refl e in omega arith
+  nearer_ticks v None i e = never (cc)
 
-  pub row_nearer : (v : Place) → next_row_of s k v ≡ next_row.Row b w → remaining s w < remaining s v
+  pub row_nearer : (v : Place) → next_row_of s k v ≡ Some r → remaining s r.next < remaining s v
   unfolding next_row_of
   row_nearer v e = nearer_ticks v (next_number_of s 0 v) refl e
 
@@ -67,10 +67,10 @@ module _ (s : List ℕ) where
   abbrev left : Position → ℕ
   left p = remaining s p.cells
 
-  near_row : (p : Position) (x : NextRow) → next_row_of s p.columns p.cells ≡ x → Nearer left p (pair_item (on_row p x))
+  near_row : (p : Position) (x : Option NextRow) → next_row_of s p.columns p.cells ≡ x → Nearer left p (pair_item (on_row p x))
   unfolding position_at
-  near_row p (next_row.Row b w) i = row_nearer s p.columns b w p.cells i
-  near_row p next_row.End i = tt
+  near_row p (Some x) i = row_nearer s p.columns x p.cells i
+  near_row p None i = tt
 
   pub pair_near : (p : Position) → Nearer left p (pair_item (next_pair_of s p))
   unfolding next_pair_of
@@ -81,57 +81,66 @@ module _ (s : List ℕ) where
   unfolding pairs_from
   pairs_step p = collect_step (λ q. pair_item (next_pair_of s q)) left pair_near p
 
-  -- ---- the n-th of them, as the code seeks it
-  module _ (p : Position) {r : NextPair} (is : r ≡ next_pair_of s p) where
-    by_pair : {x : NextPair} → r ≡ x → pairs_from s p ≡ onto (pair_item x) (λ q. pairs_from s q)
-    by_pair h = pairs_step p ∙ ap (λ (x : NextPair). onto (pair_item x) (λ q. pairs_from s q)) (sym is ∙ h)
+  pub pair_less : (p : Position) (x : NextPair) → next_pair_of s p ≡ Some x → remaining s x.next.cells < remaining s p.cells
+  pair_less p x h = let n : Nearer left p (pair_item (Some x)) = subst (λ (y : Option NextPair). Nearer left p (pair_item y)) h (pair_near p) in n
 
-    pub pair_less : (a : Cadence) (q : Position) → r ≡ next_pair.Pair a q → remaining s q.cells < remaining s p.cells
-    pair_less a q h = let n : Nearer left p (pair_item (next_pair.Pair a q)) = subst (λ (x : NextPair). Nearer left p (pair_item x)) (sym is ∙ h) (pair_near p) in n
+-- what a call of `next_pair` gave, r
+module _ (s : List ℕ) (p : Position) (r : Option NextPair) (is : r ≡ next_pair_of s p) where
+  pair_by : (x : Option NextPair) → r ≡ x → pairs_from s p ≡ onto (pair_item x) (λ q. pairs_from s q)
+  pair_by x h = pairs_step s p ∙ ap (λ (y : Option NextPair). onto (pair_item y) (λ q. pairs_from s q)) (sym is ∙ h)
 
-    module _ (p₀ : Position) (n₀ n : ℕ) (inv : nth_pair s p₀ n₀ ≡ nth_pair s p n) where
-      pub nth_end : r ≡ next_pair.End → Refused 11 0 ≡ nth_pair s p₀ n₀
-      unfolding nth_pair
-      nth_end h = nth_none (λ a. a) (Refused 11 0) (pairs_from s p) n (by_pair h) ∙ sym inv
+  pub no_pair : r ≡ None → pairs_from s p ≡ []
+  no_pair h = pair_by None h
 
-      pub nth_is : (a : Cadence) (q : Position) → r ≡ next_pair.Pair a q → n ≡ 0 → a ≡ nth_pair s p₀ n₀
-      unfolding nth_pair
-      nth_is a q h e = nth_here (λ a. a) (Refused 11 0) (pairs_from s p) n a (pairs_from s q) (by_pair h) e ∙ sym inv
+  pub pair_given : (x : NextPair) → r ≡ Some x → pairs_from s p ≡ x.answer ∷ pairs_from s x.next
+  pair_given x h = pair_by (Some x) h
 
-      pub nth_more : (a : Cadence) (q : Position) → r ≡ next_pair.Pair a q → (n ≡ 0 → ⊥) → nth_pair s p₀ n₀ ≡ nth_pair s q (n - 1)
-      unfolding nth_pair
-      nth_more a q h e = inv ∙ nth_next (λ a. a) (Refused 11 0) (pairs_from s p) n a (pairs_from s q) (by_pair h) e
+-- the n-th of them, as the iterator gives it
+abbrev pub missing : Refusal
+missing = record { number = 11; offset = 0 }
 
-pub ruleset nth_laws = (pair_less, nth_end, nth_is, nth_more)
+nth_or : (r : Option Cadence) (l : List Cadence) (n : ℕ) → option_map (λ (x : Cadence). x) r ≡ slice_get l n → ok_or r missing ≡ nth l n Ok (refuse 11 0)
+unfolding nth
+nth_or None [] n e = refl
+nth_or (Some x) [] n e = never (cc)
+nth_or None (y ∷ l) zero e = never (cc)
+nth_or (Some x) (y ∷ l) zero e = let i : x ≡ y = cc in ap Ok i
+nth_or r (y ∷ l) (suc n) e = nth_or r l n e
+
+pub nth_got : (s : List ℕ) (p : Position) (n : ℕ) (r : Option Cadence) → option_map (λ (x : Cadence). x) r ≡ slice_get (pairs_from s p) n → ok_or r missing ≡ nth_pair s p n
+unfolding nth_pair
+nth_got s p n r e = nth_or r (pairs_from s p) n e
 
 -- ---- the list and the places
 abbrev pub cells_in : List Placed → List Cell
 cells_in l = map (λ (x : Placed). x.cell) l
 
 module _ (s : List ℕ) (v : Place) where
-  none_by : (r : Listed) → on_listed s r ≡ [] → r ≡ listed.End
-  none_by (listed.Cell c w) e = never (cc)
-  none_by listed.End e = refl
+  none_by : (r : Option Listed) → on_listed s r ≡ [] → r ≡ None
+  none_by (Some x) e = never (cc)
+  none_by None e = refl
 
-  pub none_is : listed_from s v ≡ [] → next_of s v ≡ listed.End
+  pub none_is : listed_from s v ≡ [] → next_of s v ≡ None
   none_is h = none_by (next_of s v) (sym (listed_next s v) ∙ h)
 
   -- the number of the first cell, and the place of the others
   pub record Reads (column : ℕ) (c : Cell) (l : List Cell) : Type 0 where
     pub next : Place
-    pub is : next_number_of s column v ≡ next_number.Number (number_in column c) next
+    pub is : next_number_of s column v ≡ Some (record { number = number_in column c; next = next })
     pub rest : listed_from s next ≡ l
 
-  module _ (column m : ℕ) (c : Cell) (l : List Cell) (e : amount_in column c.value ≡ Is m) where
-    reads_by : (r : Listed) → next_of s v ≡ r → on_listed s r ≡ c ∷ l → Reads column c l
-    reads_by (listed.Cell d w) i h =
-        let f : d ≡ c = cc in
-        let g : listed_from s w ≡ l = cc in record {
-          next = w;
-          is = sym (number_is s column v c w m (i ∙ ap (λ (y : Cell). listed.Cell y w) f) e) ∙ ap (λ (a : Amount). next_number.Number (on_amount 0 (λ n. n) a) w) (sym e);
+  module _ (column m : ℕ) (c : Cell) (l : List Cell) (e : amount_in column c.value ≡ Some m) where
+    reads_by : (r : Option Listed) → next_of s v ≡ r → on_listed s r ≡ c ∷ l → Reads column c l
+    reads_by (Some x) i h =
+        let f : x.cell ≡ c = cc in
+        let g : listed_from s x.next ≡ l = cc in record {
+          next = x.next;
+          is =
+              number_is s column v x m i (ap (λ (y : Cell). amount_in column y.value) f ∙ e)
+              ∙ ap (λ (a : Option ℕ). Some (record { number = on_amount 0 (λ n. n) a; next = x.next })) (sym e);
           rest = g;
         }
-    reads_by listed.End i h = never (cc)
+    reads_by None i h = never (cc)
 
     pub reads : listed_from s v ≡ c ∷ l → Reads column c l
     reads h = reads_by (next_of s v) refl (sym (listed_next s v) ∙ h)
@@ -139,15 +148,15 @@ module _ (s : List ℕ) (v : Place) where
 -- ---- the next row of a session
 module _ (s : List ℕ) (k n : ℕ) (v : Place) (i : ℕ) where
   pub data Ahead (l : List Placed) : Type 0 where
-    done : rows_of k (cells_in l) ≡ [] → next_row_of s k v ≡ next_row.End → i / k ≡ n → Ahead l
-    more : (a : Row) (w : Place) (m : List Placed) (t : ℕ) → rows_of k (cells_in l) ≡ a ∷ rows_of k (cells_in m) → next_row_of s k v ≡ next_row.Row a w → listed_from s w ≡ cells_in m → judged_from k (i + k) t m ≡ Rows n → length m < length l
+    done : rows_of k (cells_in l) ≡ [] → next_row_of s k v ≡ None → i / k ≡ n → Ahead l
+    more : (a : Row) (w : Place) (m : List Placed) (t : ℕ) → rows_of k (cells_in l) ≡ a ∷ rows_of k (cells_in m) → next_row_of s k v ≡ Some (record { row = a; next = w }) → listed_from s w ≡ cells_in m → judged_from k (i + k) t m ≡ Ok n → length m < length l
         → (i + k) % k ≡ 0 → (i + k) / k ≡ i / k + 1 → Ahead l
 
-no_row : (s : List ℕ) (k : ℕ) (v : Place) → listed_from s v ≡ [] → next_row_of s k v ≡ next_row.End
-no_row s k v h = sym (no_ticks s k v refl (sym (number_end s 0 v (none_is s v h))))
+no_row : (s : List ℕ) (k : ℕ) (v : Place) → listed_from s v ≡ [] → next_row_of s k v ≡ None
+no_row s k v h = no_ticks s k v (number_end s 0 v (none_is s v h))
 
 module _ (s : List ℕ) (n : ℕ) (v : Place) (i t : ℕ) where
-  ahead_two : (l : List Placed) → listed_from s v ≡ cells_in l → judged_from 2 i t l ≡ Rows n → i % 2 ≡ 0 → Ahead s 2 n v i l
+  ahead_two : (l : List Placed) → listed_from s v ≡ cells_in l → judged_from 2 i t l ≡ Ok n → i % 2 ≡ 0 → Ahead s 2 n v i l
   unfolding rows_of by_two judged_from pick
   ahead_two [] h e z = done refl (no_row s 2 v h) (ended_rows 2 n i e).1
   ahead_two (x ∷ []) h e z =
@@ -161,11 +170,10 @@ module _ (s : List ℕ) (n : ℕ) (v : Place) (i t : ℕ) where
       let c = reads s v 0 a.number x.cell (cells_in (y ∷ l)) (ap (λ (j : ℕ). amount_in j x.cell.value) (sym z) ∙ a.is) h in
       let d = reads s c.next 1 b.number y.cell (cells_in l) (ap (λ (j : ℕ). amount_in j y.cell.value) (sym one) ∙ b.is) c.rest in
       more (row_with (number_in 0 x.cell) (number_in 1 y.cell) 0) d.next l b.after refl
-      (sym (row_by s 2 v refl (number_in 0 x.cell) c.next c.is refl (next_row.Row (row_with (number_in 0 x.cell) (number_in 1 y.cell) 0) d.next) (number_in 1 y.cell) d.next d.is
-      (row_short s 2 (number_in 0 x.cell) (number_in 1 y.cell) d.next (row_with (number_in 0 x.cell) (number_in 1 y.cell) 0) (λ q. omega arith) refl)))
+      (row_by s 2 v (number_in 0 x.cell) (number_in 1 y.cell) c.next d.next c.is d.is ∙ row_short s 2 (number_in 0 x.cell) (number_in 1 y.cell) d.next (λ q. omega arith))
       d.rest (ap (λ (j : ℕ). judged_from 2 j b.after l) (let q : i + 2 ≡ i + 1 + 1 = omega arith in q) ∙ b.rest) (omega arith) (omega arith) (omega arith)
 
-  ahead_three : (l : List Placed) → listed_from s v ≡ cells_in l → judged_from 3 i t l ≡ Rows n → i % 3 ≡ 0 → Ahead s 3 n v i l
+  ahead_three : (l : List Placed) → listed_from s v ≡ cells_in l → judged_from 3 i t l ≡ Ok n → i % 3 ≡ 0 → Ahead s 3 n v i l
   unfolding rows_of by_three judged_from pick
   ahead_three [] h e z = done refl (no_row s 3 v h) (ended_rows 3 n i e).1
   ahead_three (x ∷ []) h e z =
@@ -187,20 +195,19 @@ module _ (s : List ℕ) (n : ℕ) (v : Place) (i t : ℕ) where
       let d = reads s c.next 1 b.number y.cell (cells_in (o ∷ l)) (ap (λ (j : ℕ). amount_in j y.cell.value) (sym one) ∙ b.is) c.rest in
       let f = reads s d.next 2 g.number o.cell (cells_in l) (ap (λ (j : ℕ). amount_in j o.cell.value) (sym two) ∙ g.is) d.rest in
       more (row_with (number_in 0 x.cell) (number_in 1 y.cell) (number_in 2 o.cell)) f.next l g.after refl
-      (sym {a = next_row.Row (row_with (number_in 0 x.cell) (number_in 1 y.cell) (number_in 2 o.cell)) f.next} (row_by s 3 v refl (number_in 0 x.cell) c.next c.is refl (next_row.Row (row_with (number_in 0 x.cell) (number_in 1 y.cell) (number_in 2 o.cell)) f.next) (number_in 1 y.cell) d.next d.is
-      (row_long s 3 (number_in 0 x.cell) (number_in 1 y.cell) d.next refl refl (row_with (number_in 0 x.cell) (number_in 1 y.cell) (number_in 2 o.cell)) (number_in 2 o.cell) f.next f.is refl)))
+      (◌∙◌ {c = Some (record { row = row_with (number_in 0 x.cell) (number_in 1 y.cell) (number_in 2 o.cell); next = f.next })} (row_by s 3 v (number_in 0 x.cell) (number_in 1 y.cell) c.next d.next c.is d.is) (row_long s 3 (number_in 0 x.cell) (number_in 1 y.cell) d.next (number_in 2 o.cell) f.next refl f.is))
       f.rest (ap (λ (j : ℕ). judged_from 3 j g.after l) (let q : i + 3 ≡ i + 1 + 1 + 1 = omega arith in q) ∙ g.rest) (omega arith) (omega arith) (omega arith)
 
-  pub ahead : (k : ℕ) → TwoOrThree k → (l : List Placed) → listed_from s v ≡ cells_in l → judged_from k i t l ≡ Rows n → i % k ≡ 0 → Ahead s k n v i l
-  ahead k (inl e) l = subst (λ (j : ℕ). listed_from s v ≡ cells_in l → judged_from j i t l ≡ Rows n → i % j ≡ 0 → Ahead s j n v i l) (sym e) (ahead_two l)
-  ahead k (inr e) l = subst (λ (j : ℕ). listed_from s v ≡ cells_in l → judged_from j i t l ≡ Rows n → i % j ≡ 0 → Ahead s j n v i l) (sym e) (ahead_three l)
+  pub ahead : (k : ℕ) → TwoOrThree k → (l : List Placed) → listed_from s v ≡ cells_in l → judged_from k i t l ≡ Ok n → i % k ≡ 0 → Ahead s k n v i l
+  ahead k (inl e) l = subst (λ (j : ℕ). listed_from s v ≡ cells_in l → judged_from j i t l ≡ Ok n → i % j ≡ 0 → Ahead s j n v i l) (sym e) (ahead_two l)
+  ahead k (inr e) l = subst (λ (j : ℕ). listed_from s v ≡ cells_in l → judged_from j i t l ≡ Ok n → i % j ≡ 0 → Ahead s j n v i l) (sym e) (ahead_three l)
 
 -- ---- all pairs of a session
 unfoldable pub pairs_in : Row → List Row → List Cadence
 pairs_in a [] = []
 pairs_in a (b ∷ l) = pair_of a b ∷ pairs_in b l
 
-pub pairs_nth : (a : Row) (l : List Row) (n : ℕ) → nth (pairs_in a l) n (λ x. x) (Refused 11 0) ≡ neighbours (a ∷ l) n
+pub pairs_nth : (a : Row) (l : List Row) (n : ℕ) → nth (pairs_in a l) n Ok (refuse 11 0) ≡ neighbours (a ∷ l) n
 unfolding pairs_in nth neighbours
 pairs_nth a [] n = refl
 pairs_nth a (b ∷ l) zero = refl
@@ -212,19 +219,19 @@ pairs_length a [] = refl
 pairs_length a (b ∷ l) = ap (λ (n : ℕ). suc n) (pairs_length b l)
 
 module _ (s : List ℕ) (k n : ℕ) (three : TwoOrThree k) where
-  position_step : (a : Row) (v : Place) (x : NextRow) → next_row_of s k v ≡ x → pairs_from s (position_at a v k) ≡ onto (pair_item (on_row (position_at a v k) x)) (λ q. pairs_from s q)
+  position_step : (a : Row) (v : Place) (x : Option NextRow) → next_row_of s k v ≡ x → pairs_from s (position_at a v k) ≡ onto (pair_item (on_row (position_at a v k) x)) (λ q. pairs_from s q)
   unfolding next_pair_of position_at
-  position_step a v x h = pairs_step s (position_at a v k) ∙ ap (λ (y : NextRow). onto (pair_item (on_row (position_at a v k) y)) (λ q. pairs_from s q)) h
+  position_step a v x h = pairs_step s (position_at a v k) ∙ ap (λ (y : Option NextRow). onto (pair_item (on_row (position_at a v k) y)) (λ q. pairs_from s q)) h
 
   -- what holds of the cells after a row, for those of the row and after
   abbrev PairsAre : List Placed → Type 0
-  PairsAre l = (v : Place) (i t : ℕ) → listed_from s v ≡ cells_in l → judged_from k i t l ≡ Rows n → i % k ≡ 0 → (a : Row) → pairs_from s (position_at a v k) ≡ pairs_in a (rows_of k (cells_in l))
+  PairsAre l = (v : Place) (i t : ℕ) → listed_from s v ≡ cells_in l → judged_from k i t l ≡ Ok n → i % k ≡ 0 → (a : Row) → pairs_from s (position_at a v k) ≡ pairs_in a (rows_of k (cells_in l))
 
   pairs_ahead : (l : List Placed) (v : Place) (i : ℕ) (a : Row) → ((m : List Placed) → length m < length l → PairsAre m) → Ahead s k n v i l → pairs_from s (position_at a v k) ≡ pairs_in a (rows_of k (cells_in l))
   unfolding pairs_in position_at
-  pairs_ahead l v i a ih (done f g o) = position_step a v next_row.End g ∙ ap (pairs_in a) (sym f)
+  pairs_ahead l v i a ih (done f g o) = position_step a v None g ∙ ap (pairs_in a) (sym f)
   pairs_ahead l v i a ih (more b w m u f g o j q y x) =
-      position_step a v (next_row.Row b w) g
+      position_step a v (Some (record { row = b; next = w })) g
       ∙ ap (λ (r : List Cadence). pair_of a b ∷ r) (ih m q w (i + k) u o j y b)
       ∙ ap (pairs_in a) (sym f)
 
@@ -233,7 +240,7 @@ module _ (s : List ℕ) (k n : ℕ) (three : TwoOrThree k) where
   pairs_are (suc c) l less = λ v i t h e z a. pairs_ahead l v i a (λ m q. pairs_are c m (omega arith)) (ahead s n v i t k three l h e z)
 
   abbrev RowsAre : List Placed → Type 0
-  RowsAre l = (v : Place) (i t : ℕ) → listed_from s v ≡ cells_in l → judged_from k i t l ≡ Rows n → i % k ≡ 0 → i / k + length (rows_of k (cells_in l)) ≡ n
+  RowsAre l = (v : Place) (i t : ℕ) → listed_from s v ≡ cells_in l → judged_from k i t l ≡ Ok n → i % k ≡ 0 → i / k + length (rows_of k (cells_in l)) ≡ n
 
   rows_ahead : (l : List Placed) (v : Place) (i : ℕ) → ((m : List Placed) → length m < length l → RowsAre m) → Ahead s k n v i l → i / k + length (rows_of k (cells_in l)) ≡ n
   rows_ahead l v i ih (done f g o) = let p : length (rows_of k (cells_in l)) ≡ 0 = ap length f in omega arith

@@ -1,15 +1,16 @@
 -- Two neighbouring rows of a session: a pause, or the ticks and turns that elapsed and a cadence or none.
-use Rattle.std.specs.Prelude.{ℕ, zero, suc, ◌+◌, ◌-◌, ◌*◌, ◌/◌, List, [], ◌∷◌, ltb, leb, eqb}
+use Rattle.std.specs.Prelude.{ℕ, zero, suc, ◌+◌, ◌-◌, ◌*◌, ◌/◌, List, [], ◌∷◌, ltb, leb, eqb, Result, Ok, Err}
 use Rattle.steps.specs.Choice.{pick}
+use Rattle.refusal.specs.declared.Refusal.{Refusal}
+use Rattle.refusal.specs.Refused.{refuse}
 use Rattle.cell.specs.declared.Cell.{Cell}
 use Rattle.reading.specs.declared.Place.{Place}
 use Rattle.reading.specs.Cells.{listed_from}
 use Rattle.profile.specs.declared.Session.{Session}
-use Rattle.profile.specs.declared.Session.TheVariants as session
 use Rattle.profile.specs.Profile.{amount_in, on_amount, profile_of}
 use Rattle.cadence.specs.declared.Row.{Row}
 use Rattle.cadence.specs.declared.Cadence.{Cadence}
-use Rattle.cadence.specs.declared.Cadence.TheVariants.{Pause, Elapsed, Still, Refused}
+use Rattle.cadence.specs.declared.Cadence.TheVariants.{Pause, Elapsed, Still}
 
 -- ---- the rows of a session
 -- the number of a cell in a column; each cell of a session has one
@@ -50,16 +51,16 @@ pair_of a b =
     (measured_of (elapsed_of a.ticks b.ticks) (elapsed_of a.turns b.turns))
 
 -- a row and the next; 11 if either is missing
-unfoldable pub neighbours : List Row → ℕ → Cadence
-neighbours [] n = Refused 11 0
-neighbours (a ∷ []) n = Refused 11 0
-neighbours (a ∷ b ∷ l) zero = pair_of a b
+unfoldable pub neighbours : List Row → ℕ → Result Cadence Refusal
+neighbours [] n = refuse 11 0
+neighbours (a ∷ []) n = refuse 11 0
+neighbours (a ∷ b ∷ l) zero = Ok (pair_of a b)
 neighbours (a ∷ b ∷ l) (suc n) = neighbours (b ∷ l) n
 
 -- ---- the question, by the earlier row: any refusal of the check, then 20, then 11
-abbrev pub on_session : {A : Type 0} → (ℕ → ℕ → A) → (ℕ → Place → A) → Session → A
-on_session r f (session.Inside rows columns v) = f columns v
-on_session r f (session.Refused n o) = r n o
+abbrev pub on_session : {A : Type 0} → (ℕ → Place → Result A Refusal) → Result Session Refusal → Result A Refusal
+on_session f (Ok x) = f x.columns x.cells
+on_session f (Err e) = Err e
 
-unfoldable pub cadence_of : List ℕ → ℕ → Cadence
-cadence_of s row = on_session Refused (λ columns v. neighbours (rows_of columns (listed_from s v)) row) (profile_of s)
+unfoldable pub cadence_of : List ℕ → ℕ → Result Cadence Refusal
+cadence_of s row = on_session (λ columns v. neighbours (rows_of columns (listed_from s v)) row) (profile_of s)

@@ -1,3 +1,4 @@
 pub mod Cadence
 pub mod Steps
 pub mod Claims
+pub mod Left

@@ -1,13 +1,12 @@
 // Cadence: what lies between two neighbouring rows of a session.
 #![tactic(auto)]
 
-ghost use Rattle.std.specs.Prelude.{◌≡◌, ◌+◌, ◌-◌, ◌*◌, ◌/◌, ◌<◌};
-ghost use Rattle.cadence.specs.Cadence.{row_with, elapsed_of, measured_of, pair_of, cadence_of};
-ghost use Rattle.cadence.specs.Steps.{next_number_of, seconds_row, next_row_of, next_pair_of, position_at, on_first, pairs_of, nth_pair};
+ghost use Rattle.std.specs.Prelude.{◌≡◌};
+ghost use Rattle.cadence.specs.Cadence.{elapsed_of, measured_of, pair_of, cadence_of};
+ghost use Rattle.cadence.specs.Steps.{next_number_of, next_row_of, next_pair_of, on_first, pairs_of, nth_pair};
 
-use number::Amount;
-use profile::{NextPlaced, Session};
 use reading::Place;
+use refusal::Refusal;
 
 // Event ticks, turns, and the host's seconds, 0 where there is no third column.
 #[derive(Clone, Copy)]
@@ -17,7 +16,7 @@ pub struct Row {
     pub seconds: u32,
 }
 
-// A pause; the ticks and turns that elapsed and the cadence per minute; the turns where no ticks elapsed, which gives no cadence; or the refusal.
+// A pause; the ticks and turns that elapsed and the cadence per minute; or the turns where no ticks elapsed, which gives no cadence.
 #[derive(Clone, Copy)]
 pub enum Cadence {
     Pause,
@@ -29,24 +28,20 @@ pub enum Cadence {
     Still {
         turns: u16,
     },
-    Refused {
-        number: u8,
-        offset: usize,
-    },
 }
 
 // The number of the next cell, and the place after it.
 #[derive(Clone, Copy)]
-pub enum NextNumber {
-    Number { number: u32, next: Place },
-    Absent,
+struct NextNumber {
+    number: u32,
+    next: Place,
 }
 
 // The next row, and the place after it.
 #[derive(Clone, Copy)]
-pub enum NextRow {
-    Row { row: Row, next: Place },
-    End,
+struct NextRow {
+    row: Row,
+    next: Place,
 }
 
 // Between two rows: the earlier one, the place of the cells after it, how many columns.
@@ -57,102 +52,59 @@ pub struct Position {
     pub columns: u32,
 }
 
-// Where the pairs start, or the refusal's number and offset.
+// What lies between the rows, and the position after it.
 #[derive(Clone, Copy)]
-pub enum Start {
-    At(Position),
-    Refused { number: u8, offset: usize },
-}
-
-// What lies between the rows, and the position after it; or the end.
-#[derive(Clone, Copy)]
-pub enum NextPair {
-    Pair { answer: Cadence, next: Position },
-    End,
+pub struct NextPair {
+    pub answer: Cadence,
+    pub next: Position,
 }
 
 // ---- a row
 
-fn next_number(s: &[u8], column: u32, from: Place) -> NextNumber
+#[tactic(auto, unfolding(crate::specs::Steps::next_number_of))]
+fn next_number(s: &[u8], column: u32, from: Place) -> Option<NextNumber>
     ensures { result ≡ next_number_of s.now column from }
 {
-    match profile::next_with_record(s, from) {
-        NextPlaced::Cell { at: _, cell, next } => {
-            let value = cell.value;
-            match profile::amount_in(column, value) {
-                Amount::Is(number) => NextNumber::Number { number, next },
-                Amount::Unfit => NextNumber::Absent,
-            }
-        }
-        NextPlaced::End => NextNumber::Absent,
-    }
+    let listed = listing::next_cell(s, from)?;
+    Some(NextNumber {
+        number: profile::amount_in(column, listed.cell.value)?,
+        next: listed.next,
+    })
 }
 
-fn row_with(ticks: u32, turns: u32, seconds: u32) -> Row
-    requires { (ticks < 65536) × (turns < 65536) }
-    ensures { result ≡ row_with ticks turns seconds }
-{
-    Row {
-        ticks: ticks as u16,
-        turns: turns as u16,
-        seconds,
-    }
-}
-
-fn seconds_row(s: &[u8], columns: u32, ticks: u32, turns: u32, from: Place) -> NextRow
-    requires { (ticks < 65536) × (turns < 65536) }
-    ensures { result ≡ seconds_row s.now columns ticks turns from }
-{
-    if columns == 3 {
-        return match next_number(s, 2, from) {
-            NextNumber::Number { number, next } => NextRow::Row {
-                row: row_with(ticks, turns, number),
-                next,
-            },
-            NextNumber::Absent => NextRow::End,
-        };
-    }
-    NextRow::Row {
-        row: row_with(ticks, turns, 0),
-        next: from,
-    }
-}
-
-fn next_row(s: &[u8], columns: u32, from: Place) -> NextRow
+#[tactic(auto, using(crate::proofs::Laws::row_laws), unfolding(crate::specs::Steps::next_row_of, crate::specs::Steps::seconds_row, crate::specs::Cadence::row_with, steps::specs::Choice::pick))]
+fn next_row(s: &[u8], columns: u32, from: Place) -> Option<NextRow>
     ensures { result ≡ next_row_of s.now columns from }
 {
-    match next_number(s, 0, from) {
-        NextNumber::Number {
-            number: ticks,
-            next: second,
-        } => match next_number(s, 1, second) {
-            NextNumber::Number {
-                number: turns,
-                next: third,
-            } => seconds_row(s, columns, ticks, turns, third),
-            NextNumber::Absent => NextRow::End,
-        },
-        NextNumber::Absent => NextRow::End,
+    let ticks = next_number(s, 0, from)?;
+    let turns = next_number(s, 1, ticks.next)?;
+    let mut last = NextNumber {
+        number: 0,
+        next: turns.next,
+    };
+    if columns == 3 {
+        last = next_number(s, 2, turns.next)?;
     }
+    Some(NextRow {
+        row: Row {
+            ticks: ticks.number as u16,
+            turns: turns.number as u16,
+            seconds: last.number,
+        },
+        next: last.next,
+    })
 }
 
 // ---- two neighbouring rows
 
-fn wide(x: u16) -> u32
-    ensures { (result ≡ x) × (result < 65536) }
-{
-    x as u32
-}
-
+#[tactic(auto, unfolding(crate::specs::Cadence::elapsed_of, steps::specs::Choice::pick))]
 fn elapsed(earlier: u16, later: u16) -> u16
     ensures { result ≡ elapsed_of earlier later }
 {
-    if later < earlier {
-        return (wide(later) + 65536 - wide(earlier)) as u16;
-    }
-    later - earlier
+    later.wrapping_sub(earlier)
 }
 
+#[tactic(auto, unfolding(crate::specs::Cadence::measured_of, steps::specs::Choice::pick))]
 fn measured(ticks: u16, turns: u16) -> Cadence
     ensures { result ≡ measured_of ticks turns }
 {
@@ -162,24 +114,15 @@ fn measured(ticks: u16, turns: u16) -> Cadence
     Cadence::Elapsed {
         ticks,
         turns,
-        cadence: wide(turns) * 61440 / wide(ticks),
+        cadence: u32::from(turns) * 61440 / u32::from(ticks),
     }
 }
 
-// The seconds from the earlier to the later.
-fn between(earlier: u32, later: u32) -> u32
-    ensures { result ≡ later - earlier }
-{
-    if earlier < later {
-        return later - earlier;
-    }
-    0
-}
-
+#[tactic(auto, unfolding(crate::specs::Cadence::pair_of, steps::specs::Choice::pick))]
 fn pair(a: Row, b: Row) -> Cadence
     ensures { result ≡ pair_of a b }
 {
-    if 64 <= between(a.seconds, b.seconds) {
+    if b.seconds.saturating_sub(a.seconds) >= 64 {
         return Cadence::Pause;
     }
     measured(elapsed(a.ticks, b.ticks), elapsed(a.turns, b.turns))
@@ -187,87 +130,95 @@ fn pair(a: Row, b: Row) -> Cadence
 
 // ---- the pairs one after the other
 
-fn position_at(earlier: Row, cells: Place, columns: u32) -> Position
-    ensures { result ≡ position_at earlier cells columns }
+// The next pair from a position on. It doesn't check the stream: `pairs` has. Over other bytes, or from a made-up position, it has an answer too, and each
+// position that it gives is nearer the end.
+#[tactic(auto, unfolding(crate::specs::Steps::next_pair_of, crate::specs::Steps::position_at))]
+pub fn next_pair(s: &[u8], from: Position) -> Option<NextPair>
+    ensures { result ≡ next_pair_of s.now from }
 {
+    let later = next_row(s, from.columns, from.cells)?;
+    Some(NextPair {
+        answer: pair(from.earlier, later.row),
+        next: Position {
+            earlier: later.row,
+            cells: later.next,
+            columns: from.columns,
+        },
+    })
+}
+
+#[tactic(auto, unfolding(crate::specs::Steps::position_at, crate::specs::Cadence::row_with))]
+fn first_row(s: &[u8], columns: u32, from: Place) -> Position
+    ensures { result ≡ on_first columns from (next_row_of s.now columns from) }
+{
+    let first = next_row(s, columns, from).unwrap_or(NextRow {
+        row: Row {
+            ticks: 0,
+            turns: 0,
+            seconds: 0,
+        },
+        next: from,
+    });
     Position {
-        earlier,
-        cells,
+        earlier: first.row,
+        cells: first.next,
         columns,
     }
 }
 
-// The next pair from a position on. It doesn't check the stream: `pairs` has. Over other bytes, or from a made-up position, it has an answer too, and each
-// position that it gives is nearer the end.
-pub fn next_pair(s: &[u8], from: Position) -> NextPair
-    ensures { result ≡ next_pair_of s.now from }
-{
-    let earlier = from.earlier;
-    let cells = from.cells;
-    let columns = from.columns;
-    match next_row(s, columns, cells) {
-        NextRow::Row { row, next } => NextPair::Pair {
-            answer: pair(earlier, row),
-            next: position_at(row, next, columns),
-        },
-        NextRow::End => NextPair::End,
-    }
-}
-
-fn first_row(s: &[u8], columns: u32, from: Place) -> Position
-    ensures { result ≡ on_first columns from (next_row_of s.now columns from) }
-{
-    match next_row(s, columns, from) {
-        NextRow::Row { row, next } => position_at(row, next, columns),
-        NextRow::End => position_at(row_with(0, 0, 0), from, columns),
-    }
-}
-
 // Where the pairs of neighbouring rows start, for `next_pair`.
-pub fn pairs(s: &[u8]) -> Start
+#[tactic(auto, unfolding(crate::specs::Steps::pairs_of))]
+pub fn pairs(s: &[u8]) -> Result<Position, Refusal>
     ensures { result ≡ pairs_of s.now }
 {
-    match profile::profile(s) {
-        Session::Inside {
-            rows: _,
-            columns,
-            cells,
-        } => Start::At(first_row(s, columns, cells)),
-        Session::Refused { number, offset } => Start::Refused { number, offset },
+    let session = profile::profile(s)?;
+    Ok(first_row(s, session.columns, session.cells))
+}
+
+// What lies between the rows from a position on, pair by pair.
+#[derive(Clone, Copy)]
+struct RowPairs<'a> {
+    stream: &'a [u8],
+    position: Position,
+}
+
+impl<'a> Iterator for RowPairs<'a> {
+    ghost use Rattle.std.specs.Iterator.{YieldsFirst, item_count};
+    ghost use Rattle.cadence.specs.Left.{left};
+
+    type Item = Cadence;
+
+    ghost next_gives = { YieldsFirst left };
+
+    ghost remaining = { item_count left };
+
+    #[tactic(auto, using(crate::proofs::Steps::no_pair, crate::proofs::Steps::pair_given))]
+    fn next(&mut self) -> Option<Cadence> {
+        let pair = next_pair(self.stream, self.position)?;
+        self.position = pair.next;
+        Some(pair.answer)
     }
 }
 
 // The n-th pair from a position on; 11 where there is none.
-fn nth_pair(s: &[u8], from: Position, n: u32) -> Cadence
+fn nth_pair(s: &[u8], from: Position, n: u32) -> Result<Cadence, Refusal>
     ensures { result ≡ nth_pair s.now from n }
 {
-    let mut p = from;
-    let mut left = n;
-    loop {
-        match next_pair(s, p) {
-            NextPair::Pair { answer, next } => {
-                if left == 0 {
-                    return answer;
-                }
-                left -= 1;
-                p = next;
-            }
-            NextPair::End => {
-                return Cadence::Refused {
-                    number: 11,
-                    offset: 0,
-                };
-            }
-        }
-    }
+    let mut pairs = RowPairs {
+        stream: s,
+        position: from,
+    };
+    pairs.nth(n as usize).ok_or(Refusal {
+        number: 11,
+        offset: 0,
+    })
 }
 
 // What lies between a row and the next.
-pub fn cadence_at(s: &[u8], row: u32) -> Cadence
+#[tactic(auto, using(crate::proofs::Claims::cadence_laws))]
+pub fn cadence_at(s: &[u8], row: u32) -> Result<Cadence, Refusal>
     ensures { result ≡ cadence_of s.now row }
 {
-    match pairs(s) {
-        Start::Refused { number, offset } => Cadence::Refused { number, offset },
-        Start::At(start) => nth_pair(s, start, row),
-    }
+    let start = pairs(s)?;
+    nth_pair(s, start, row)
 }

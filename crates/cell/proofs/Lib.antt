@@ -1,4 +1,2 @@
 pub mod Sizes
 pub mod Judging
-pub mod Finding
-pub mod Counting

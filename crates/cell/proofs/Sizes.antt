@@ -3,12 +3,13 @@ use Prim.Native.Nat.{ℕ, ◌+◌, ◌-◌, ◌*◌, ◌≤◌, ◌<◌}
 use mathlib.Core.Path.{◌≡◌, refl, sym, ap, ◌∙◌}
 use mathlib.Core.List.{List}
 use mathlib.Core.Bool.{Bool, true, false}
+use mathlib.Core.Logic.{◌⊎◌, inl, inr}
 use native.Mathlib.Omega.{arith}
 use native.Mathlib.Nat.{mul_comm, mul-le-mul_right}
 use lib.Dec.{ltb, leb, eqb}
-use borrow.Author.Tests.{eqb-true, ltb-false, leb-true}
+use borrow.Author.Tests.{eqb-true, eqb-false, ltb-false, leb-true}
 use Rattle.steps.specs.Choice.{pick}
-use Rattle.steps.proofs.Choice.{pick_eq, pick_ne, pick_lt, pick_nlt, pick_le, pick_nle}
+use Rattle.steps.proofs.Choice.{pick_eq, pick_ne, pick_le, pick_nle}
 use Rattle.byte_numbers.specs.Bytes.{u16_at}
 use Rattle.value.specs.declared.Field.{Field}
 use Rattle.value.specs.declared.Field.TheVariants.{NoField, Float, RkWord, TextIndex, TruthError, StoredResult}
@@ -36,37 +37,9 @@ module _ {part n : ℕ} (h : part ≤ 6) (i : n < 65536) where
   pub size_fits : 6 + part * n < 18446744073709551616
   size_fits = let m : part * n ≤ 6 * n = mul-le-mul_right n h in omega arith
 
-module _ (s : List ℕ) (at z first last : ℕ) (a : first ≡ u16_at s (at + 6)) (b : last ≡ u16_at s (at + 2 + z)) where
-  pub columns_crossed : last < first → 0 ≡ columns (first_at s at) (last_at s at z)
-  unfolding columns first_at last_at
-  columns_crossed h = pick_lt _ _ _ (u16_at s (at + 2 + z)) (u16_at s (at + 6)) (omega arith) refl
-
-  module _ (ordered : first ≤ last) where
-    pub columns_over : 255 < last → 0 ≡ columns (first_at s at) (last_at s at z)
-    unfolding columns first_at last_at
-    columns_over h = pick_nlt _ _ _ (u16_at s (at + 2 + z)) (u16_at s (at + 6)) (omega arith) (pick_lt _ _ _ 255 (u16_at s (at + 2 + z)) (omega arith) refl)
-
-    pub columns_are : last ≤ 255 → last + 1 - first ≡ columns (first_at s at) (last_at s at z)
-    unfolding columns first_at last_at
-    columns_are h = pick_nlt _ _ _ (u16_at s (at + 2 + z)) (u16_at s (at + 6)) (omega arith) (pick_nlt _ _ _ 255 (u16_at s (at + 2 + z)) (omega arith) (omega arith))
-
-pub ruleset columns_laws = (columns_crossed, columns_over, columns_are)
-
-module _ (s : List ℕ) (at z part : ℕ) where
-  pub multiple_short : z < 6 → 0 ≡ multiple s at z part
-  unfolding multiple sized
-  multiple_short h = pick_ne _ _ _ z (6 + part * columns (first_at s at) (last_at s at z)) (λ e. omega arith) refl
-
-  module _ (n m : ℕ) (is : n ≡ columns (first_at s at) (last_at s at z)) (wide : m ≡ n) where
-    pub multiple_is : z ≡ 6 + part * m → n ≡ multiple s at z part
-    unfolding multiple sized
-    multiple_is e = pick_eq _ _ _ z (6 + part * columns (first_at s at) (last_at s at z)) (e ∙ ap (λ (x : ℕ). 6 + part * x) (wide ∙ is)) is
-
-    pub multiple_none : (z ≡ 6 + part * m → ⊥) → 0 ≡ multiple s at z part
-    unfolding multiple sized
-    multiple_none o = pick_ne _ _ _ z (6 + part * columns (first_at s at) (last_at s at z)) (λ e. o (e ∙ ap (λ (x : ℕ). 6 + part * x) (sym (wide ∙ is)))) refl
-
-pub ruleset multiple_laws = (multiple_short, multiple_is, multiple_none)
+pub multiple_short : (s : List ℕ) (at z part : ℕ) → z < 6 → 0 ≡ multiple s at z part
+unfolding multiple sized
+multiple_short s at z part h = pick_ne _ _ _ z (6 + part * columns (first_at s at) (last_at s at z)) (λ e. omega arith) refl
 
 -- ---- a record of one size, and a formula: one cell or none
 module _ (s : List ℕ) (h : Shape) (at z : ℕ) (one : count_of h s at z ≡ sized z (size_of h) 1) where
@@ -128,6 +101,16 @@ multiple_below s at z part n k is l =
     let b = sized_below z (6 + part * m) m k (rw is at l) in
     let e : n ≡ m = is ∙ b.0 in
     (columns_below (first_at s at) (last_at s at z) k (rw e at l), b.1 ∙ ap (λ (x : ℕ). 6 + x) (mul_comm part m ∙ ap (λ (x : ℕ). x * part) (sym e)))
+
+pub multiple_parts : (s : List ℕ) (at z part : ℕ) → (multiple s at z part ≡ 0) ⊎ ((first_at s at + multiple s at z part ≤ 256) × (z ≡ 6 + multiple s at z part * part))
+multiple_parts s at z part = by (eqb (multiple s at z part) 0) refl
+  where
+    by : (t : Bool) → eqb (multiple s at z part) 0 ≡ t → (multiple s at z part ≡ 0) ⊎ ((first_at s at + multiple s at z part ≤ 256) × (z ≡ 6 + multiple s at z part * part))
+    by true e = inl (eqb-true _ 0 e)
+    by false e =
+        let some = eqb-false _ 0 e in
+        let b = multiple_below s at z part _ (multiple s at z part - 1) refl (omega arith) in
+        inr (omega (arith, b.0), b.1)
 
 -- ---- where the cells lie
 -- the parts of a record that has a k-th cell lie in its body, and its k-th column is at most 255 if its first is

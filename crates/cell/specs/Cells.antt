@@ -1,8 +1,10 @@
 -- The cell records. The header is at `at`, the body of z bytes at `at + 4`.
 -- A body is: row, first column, then one cell's part after the other, then a multiple record's last column or a formula's tokens.
 -- A cell's part is: format, value field, and in a formula flags, 4 unused bytes and the tokens' length.
-use Rattle.std.specs.Prelude.{ℕ, zero, suc, ◌+◌, ◌-◌, ◌*◌, Bool, true, false, List, [], ◌∷◌, ltb, leb, eqb, take, drop}
+use Rattle.std.specs.Prelude.{ℕ, zero, suc, ◌+◌, ◌-◌, ◌*◌, Bool, true, false, List, [], ◌∷◌, Option, Some, None, Result, Ok, ltb, leb, eqb, take, drop}
 use Rattle.steps.specs.Choice.{pick}
+use Rattle.refusal.specs.Refused.{refuse}
+use Rattle.refusal.specs.declared.Refusal.{Refusal}
 use Rattle.byte_numbers.specs.Bytes.{u16_at, num_at}
 use Rattle.value.specs.declared.Field.{Field}
 use Rattle.value.specs.declared.Field.TheVariants.{NoField, Float, RkWord, TextIndex, TruthError, StoredResult}
@@ -11,10 +13,7 @@ use Rattle.cell.specs.declared.Shape.{Shape}
 use Rattle.cell.specs.declared.Shape.TheVariants.{BLANK, NUMBER, RK, LABELSST, BOOLERR, MULRK, MULBLANK, FORMULA, OTHER}
 use Rattle.cell.specs.declared.Tokens.{Tokens}
 use Rattle.cell.specs.declared.Cell.{Cell}
-use Rattle.cell.specs.declared.Judged.{Judged}
-use Rattle.cell.specs.declared.Judged.TheVariants.{Passed, Refused, Other}
 use Rattle.cell.specs.declared.Found.{Found}
-use Rattle.cell.specs.declared.Found.TheVariants.{There, Absent}
 
 -- ---- the records, by their types
 unfoldable pub shape_of : ℕ → Shape
@@ -154,8 +153,8 @@ unfoldable pub cell_of : List ℕ → Field → ℕ → ℕ → Cell
 cell_of s f at k = cell_from f s (row_at s at) (first_at s at + k) (at + 8 + k * part_of f)
 
 -- the k-th cell, and how many come after it
-unfoldable pub found_of : List ℕ → Shape → ℕ → ℕ → ℕ → Found
-found_of s h at z k = pick (ltb k (count_of h s at z)) (There (cell_of s (field_of h) at k) (count_of h s at z - (k + 1))) Absent
+unfoldable pub found_of : List ℕ → Shape → ℕ → ℕ → ℕ → Option Found
+found_of s h at z k = pick (ltb k (count_of h s at z)) (Some (record { cell = cell_of s (field_of h) at k; left = count_of h s at z - (k + 1) })) None
 
 -- the bytes of a cell's tokens
 unfoldable pub tokens_of : List ℕ → Cell → List ℕ
@@ -168,14 +167,14 @@ fields_fit f s q zero = true
 fields_fit f s q (suc n) = pick (value_fits f (field_at f s q)) (fields_fit f s (q + part_of f) n) false
 
 -- a wrong size or field is 6; of a record that is else right, a text's index that is not below the unique count is 9
-unfoldable pub judged : List ℕ → Shape → ℕ → ℕ → ℕ → Judged
+unfoldable pub judged : List ℕ → Shape → ℕ → ℕ → ℕ → Result (Option ℕ) Refusal
 judged s h at z unique =
-    pick (eqb (count_of h s at z) 0) (Refused 6 at)
-    (pick (ltb 255 (first_at s at)) (Refused 6 at)
+    pick (eqb (count_of h s at z) 0) (refuse 6 at)
+    (pick (ltb 255 (first_at s at)) (refuse 6 at)
     (pick (fields_fit (field_of h) s (at + 8) (count_of h s at z))
-    (pick (index_fits (field_of h) (field_at (field_of h) s (at + 8)) unique) (Passed (count_of h s at z)) (Refused 9 at))
-    (Refused 6 at)))
+    (pick (index_fits (field_of h) (field_at (field_of h) s (at + 8)) unique) (Ok (Some (count_of h s at z))) (refuse 9 at))
+    (refuse 6 at)))
 
--- any other record is passed over
-unfoldable pub judge_of : List ℕ → Shape → ℕ → ℕ → ℕ → Judged
-judge_of s h at z unique = pick (is_cell h) (judged s h at z unique) Other
+-- any other record has no cells
+unfoldable pub judge_of : List ℕ → Shape → ℕ → ℕ → ℕ → Result (Option ℕ) Refusal
+judge_of s h at z unique = pick (is_cell h) (judged s h at z unique) (Ok None)

@@ -1,10 +1,12 @@
 // One cell record of a worksheet: whether it is right, and its cells.
-#![tactic(auto)]
+#![tactic(auto, using(crate::proofs::Sizes::product_fits, crate::proofs::Sizes::size_fits, crate::proofs::Sizes::multiple_parts), unfolding(crate::specs::Cells::shape_of, crate::specs::Cells::first_at, crate::specs::Cells::last_at, crate::specs::Cells::row_at, crate::specs::Cells::length_at, crate::specs::Cells::sized, crate::specs::Cells::columns, crate::specs::Cells::multiple, crate::specs::Cells::field_at, crate::specs::Cells::cell_from, crate::specs::Cells::cell_of, crate::specs::Cells::found_of, crate::specs::Cells::fields_fit, crate::specs::Cells::judged, crate::specs::Cells::judge_of, crate::specs::Parts::formula_sized, steps::specs::Choice::pick))]
 
 ghost use Rattle.std.specs.Prelude.{◌≡◌, ◌+◌, ◌*◌, ◌≤◌, ◌<◌, length};
-ghost use Rattle.cell.specs.Cells.{shape_of, first_at, last_at, sized, columns, multiple, count_of, no_tokens, cell_of, found_of, fields_fit, judged, judge_of};
-ghost use Rattle.cell.specs.Parts.{formula_sized, cell_with, single_of};
+ghost use Rattle.cell.specs.Cells.{shape_of, part_of, start_of, first_at, last_at, sized, columns, multiple, count_of, field_at, tokens_at, found_of, fields_fit, judge_of};
+ghost use Rattle.cell.specs.Parts.{judged_in, formula_sized, found_in};
+ghost use Rattle.value.specs.Value.{value_of, value_fits};
 
+use refusal::Refusal;
 use value::{CellValue, Field};
 
 // The cell records; OTHER is any other record.
@@ -40,23 +42,16 @@ pub struct Cell {
     pub field: usize,
 }
 
-// A record that passes has so many cells; `Other` is no cell record.
-#[derive(Clone, Copy)]
-pub enum Judged {
-    Passed(u16),
-    Refused { number: u8, offset: usize },
-    Other,
-}
-
 // A cell, and how many of its record come after it.
 #[derive(Clone, Copy)]
-pub enum Found {
-    There { cell: Cell, left: u16 },
-    Absent,
+pub struct Found {
+    pub cell: Cell,
+    pub left: u16,
 }
 
 // ---- sizes
 
+// Stream, place and size stay three parameters in what follows: a refusal's offset is the stream's, and a struct of them would be made anew for each record to say no more than this clause.
 // How many columns a multiple record says it has; none where they are out of order or over 255.
 fn columns(s: &[u8], at: usize, size: usize) -> u16
     requires { (at + 4 + size ≤ length s.now) × (6 ≤ size) }
@@ -64,10 +59,7 @@ fn columns(s: &[u8], at: usize, size: usize) -> u16
 {
     let first = byte_numbers::u16_at(s, at + 6);
     let last = byte_numbers::u16_at(s, at + 2 + size);
-    if last < first {
-        return 0;
-    }
-    if 255 < last {
+    if last < first || 255 < last {
         return 0;
     }
     last + 1 - first
@@ -82,144 +74,97 @@ pub fn multiple_count(s: &[u8], at: usize, size: usize, part: usize) -> u16
         return 0;
     }
     let n = columns(s, at, size);
-    if size == 6 + part * byte_numbers::u16_as_usize(n) {
+    if size == 6 + part * usize::from(n) {
         return n;
     }
     0
 }
 
-// ---- the judgement, by the record's type: the unique count plays a part in LABELSST alone
+// ---- the judgement
 
-// A wrong size or field.
-fn wrong(at: usize) -> Judged
-    ensures { result ≡ Judged.Refused 6 at }
+// Whether the value of the part at q is right.
+#[inline(always)]
+fn value_fits(s: &[u8], f: Field, q: usize) -> bool
+    requires { q + part_of f ≤ length s.now }
+    ensures { result ≡ value_fits f (field_at f s.now q) }
 {
-    Judged::Refused {
-        number: 6,
-        offset: at,
+    match f {
+        Field::RkWord => !number::means_nothing(byte_numbers::u32_at(s, q + 2)),
+        Field::TruthError => value::truth_error_fits(byte_numbers::u16_at(s, q + 2)),
+        Field::StoredResult => value::result_fits(byte_numbers::u64_at(s, q + 2)),
+        _ => true,
     }
 }
 
-fn judge_blank(s: &[u8], at: usize, size: usize) -> Judged
-    requires { at + 4 + size ≤ length s.now }
-    ensures { result ≡ judged s.now Shape.BLANK at size 0 }
+// Whether the n values from the part at q on are right.
+#[inline(always)]
+fn fields_fit(s: &[u8], f: Field, q: usize, n: u16) -> bool
+    requires { q + n * part_of f ≤ length s.now }
+    ensures { result ≡ fields_fit f s.now q n }
 {
-    if size != 6 {
-        return wrong(at);
-    }
-    if 255 < byte_numbers::u16_at(s, at + 6) {
-        return wrong(at);
-    }
-    Judged::Passed(1)
-}
-
-fn judge_number(s: &[u8], at: usize, size: usize) -> Judged
-    requires { at + 4 + size ≤ length s.now }
-    ensures { result ≡ judged s.now Shape.NUMBER at size 0 }
-{
-    if size != 14 {
-        return wrong(at);
-    }
-    if 255 < byte_numbers::u16_at(s, at + 6) {
-        return wrong(at);
-    }
-    Judged::Passed(1)
-}
-
-fn judge_rk(s: &[u8], at: usize, size: usize) -> Judged
-    requires { at + 4 + size ≤ length s.now }
-    ensures { result ≡ judged s.now Shape.RK at size 0 }
-{
-    if size != 10 {
-        return wrong(at);
-    }
-    if 255 < byte_numbers::u16_at(s, at + 6) {
-        return wrong(at);
-    }
-    let q = at + 8;
-    if number::means_nothing(byte_numbers::u32_at(s, q + 2)) {
-        return wrong(at);
-    }
-    Judged::Passed(1)
-}
-
-fn judge_labelsst(s: &[u8], at: usize, size: usize, unique: u32) -> Judged
-    requires { at + 4 + size ≤ length s.now }
-    ensures { result ≡ judged s.now Shape.LABELSST at size unique }
-{
-    if size != 10 {
-        return wrong(at);
-    }
-    if 255 < byte_numbers::u16_at(s, at + 6) {
-        return wrong(at);
-    }
-    let q = at + 8;
-    if byte_numbers::u32_at(s, q + 2) < unique {
-        return Judged::Passed(1);
-    }
-    Judged::Refused {
-        number: 9,
-        offset: at,
-    }
-}
-
-fn judge_boolerr(s: &[u8], at: usize, size: usize) -> Judged
-    requires { at + 4 + size ≤ length s.now }
-    ensures { result ≡ judged s.now Shape.BOOLERR at size 0 }
-{
-    if size != 8 {
-        return wrong(at);
-    }
-    if 255 < byte_numbers::u16_at(s, at + 6) {
-        return wrong(at);
-    }
-    let q = at + 8;
-    if value::truth_error_fits(byte_numbers::u16_at(s, q + 2)) {
-        return Judged::Passed(1);
-    }
-    wrong(at)
-}
-
-// Whether each of the n words, from the part at q on, means something.
-fn words_fit(s: &[u8], q: usize, n: u16) -> bool
-    requires { q + n * 6 ≤ length s.now }
-    ensures { result ≡ fields_fit Field.RkWord s.now q n }
-{
-    let mut at = q;
-    let mut left = n;
-    while 0 < left {
-        if number::means_nothing(byte_numbers::u32_at(s, at + 2)) {
+    for i in 0..n {
+        if !value_fits(s, f, q + usize::from(i) * part_of(f)) {
             return false;
         }
-        at += 6;
-        left -= 1;
     }
     true
 }
 
-fn judge_mulrk(s: &[u8], at: usize, size: usize) -> Judged
-    requires { at + 4 + size ≤ length s.now }
-    ensures { result ≡ judged s.now Shape.MULRK at size 0 }
+// Judges a record of n cells. Inlined, since each call knows f: no choice by it is then left.
+#[inline(always)]
+fn judge(s: &[u8], at: usize, f: Field, n: u16, unique: u32) -> Result<Option<u16>, Refusal>
+    requires { 0 < n → at + 8 + n * part_of f ≤ length s.now }
+    ensures { result ≡ judged_in s.now at f n unique }
 {
-    let n = multiple_count(s, at, size, 6);
-    if n == 0 {
-        return wrong(at);
+    if n == 0 || 255 < byte_numbers::u16_at(s, at + 6) || !fields_fit(s, f, at + 8, n) {
+        return Err(Refusal {
+            number: 6,
+            offset: at,
+        });
     }
-    if words_fit(s, at + 8, n) {
-        return Judged::Passed(n);
+    match f {
+        Field::TextIndex if unique <= byte_numbers::u32_at(s, at + 10) => Err(Refusal {
+            number: 9,
+            offset: at,
+        }),
+        _ => Ok(Some(n)),
     }
-    wrong(at)
 }
 
-fn judge_mulblank(s: &[u8], at: usize, size: usize) -> Judged
+// Judges the record of this type at `at`, whose body has `size` bytes, in a workbook of so many shared strings.
+pub fn judge_record(
+    s: &[u8],
+    at: usize,
+    kind: u16,
+    size: usize,
+    unique: u32,
+) -> Result<Option<u16>, Refusal>
     requires { at + 4 + size ≤ length s.now }
-    ensures { result ≡ judged s.now Shape.MULBLANK at size 0 }
+    ensures { result ≡ judge_of s.now (shape_of kind) at size unique }
 {
-    let n = multiple_count(s, at, size, 2);
-    if n == 0 {
-        return wrong(at);
+    match kind {
+        0x0201 => judge(s, at, Field::NoField, one_cell(size, 6), unique),
+        0x0203 => judge(s, at, Field::Float, one_cell(size, 14), unique),
+        0x027E => judge(s, at, Field::RkWord, one_cell(size, 10), unique),
+        0x00FD => judge(s, at, Field::TextIndex, one_cell(size, 10), unique),
+        0x0205 => judge(s, at, Field::TruthError, one_cell(size, 8), unique),
+        0x00BD => judge(s, at, Field::RkWord, multiple_count(s, at, size, 6), unique),
+        0x00BE => judge(
+            s,
+            at,
+            Field::NoField,
+            multiple_count(s, at, size, 2),
+            unique,
+        ),
+        0x0006 => judge(
+            s,
+            at,
+            Field::StoredResult,
+            formula_cells(s, at, size),
+            unique,
+        ),
+        _ => Ok(None),
     }
-    Judged::Passed(n)
 }
 
 // Whether all of a FORMULA but its stored result is right: its size, with the tokens that it says it has, and its column.
@@ -227,289 +172,123 @@ pub fn formula_sized(s: &[u8], at: usize, size: usize) -> bool
     requires { at + 4 + size ≤ length s.now }
     ensures { result ≡ formula_sized s.now at size }
 {
-    if size < 22 {
-        return false;
-    }
-    let q = at + 8;
-    if size < 22 + byte_numbers::u16_as_usize(byte_numbers::u16_at(s, q + 16)) {
-        return false;
-    }
-    byte_numbers::u16_at(s, at + 6) <= 255
+    formula_cells(s, at, size) == 1 && byte_numbers::u16_at(s, at + 6) <= 255
 }
 
-fn judge_formula(s: &[u8], at: usize, size: usize) -> Judged
-    requires { at + 4 + size ≤ length s.now }
-    ensures { result ≡ judged s.now Shape.FORMULA at size 0 }
+// ---- the cells
+
+// The bytes of a cell's part.
+#[inline(always)]
+fn part_of(f: Field) -> usize
+    ensures { result ≡ part_of f }
 {
-    if formula_sized(s, at, size) {
-        if value::result_fits(byte_numbers::u64_at(s, at + 10)) {
-            return Judged::Passed(1);
+    match f {
+        Field::StoredResult => 18,
+        _ => 2 + value::width_of(f),
+    }
+}
+
+// Where in its part the value field starts: after the format; a blank's place is its format.
+#[inline(always)]
+fn start_of(f: Field) -> usize
+    ensures { result ≡ start_of f }
+{
+    match f {
+        Field::NoField => 0,
+        _ => 2,
+    }
+}
+
+// What the value field of the part at q says.
+#[inline(always)]
+fn value_at(s: &[u8], f: Field, q: usize) -> CellValue
+    requires { q + part_of f ≤ length s.now }
+    ensures { result ≡ value_of f (field_at f s.now q) }
+{
+    match f {
+        Field::NoField => CellValue::Blank,
+        Field::Float => value::float_value(byte_numbers::u64_at(s, q + 2)),
+        Field::RkWord => value::rk_value(byte_numbers::u32_at(s, q + 2)),
+        Field::TextIndex => CellValue::Text(byte_numbers::u32_at(s, q + 2)),
+        Field::TruthError => value::truth_error_value(byte_numbers::u16_at(s, q + 2)),
+        Field::StoredResult => {
+            CellValue::Formula(value::result_value(byte_numbers::u64_at(s, q + 2)))
         }
-        return wrong(at);
-    }
-    wrong(at)
-}
-
-// Judges the record of this type at `at`, whose body has `size` bytes, in a workbook of so many shared strings.
-pub fn judge_record(s: &[u8], at: usize, kind: u16, size: usize, unique: u32) -> Judged
-    requires { at + 4 + size ≤ length s.now }
-    ensures { result ≡ judge_of s.now (shape_of kind) at size unique }
-{
-    match kind {
-        0x0201 => judge_blank(s, at, size),
-        0x0203 => judge_number(s, at, size),
-        0x027E => judge_rk(s, at, size),
-        0x00FD => judge_labelsst(s, at, size, unique),
-        0x0205 => judge_boolerr(s, at, size),
-        0x00BD => judge_mulrk(s, at, size),
-        0x00BE => judge_mulblank(s, at, size),
-        0x0006 => judge_formula(s, at, size),
-        _ => Judged::Other,
     }
 }
 
-// ---- the cells, by the record's type
-
-fn no_tokens() -> Tokens
-    ensures { result ≡ no_tokens }
+#[inline(always)]
+fn tokens_at(s: &[u8], f: Field, q: usize) -> Tokens
+    requires { q + part_of f ≤ length s.now }
+    ensures { result ≡ tokens_at f s.now q }
 {
-    Tokens {
-        start: 0,
-        length: 0,
+    match f {
+        Field::StoredResult => Tokens {
+            start: q + 18,
+            length: byte_numbers::u16_at(s, q + 16),
+        },
+        _ => Tokens {
+            start: 0,
+            length: 0,
+        },
     }
 }
 
-// A cell whose part stands at q, put together.
-fn cell_with(
-    s: &[u8],
-    at: usize,
-    column: u16,
-    q: usize,
-    kind: Field,
-    field: usize,
-    value: CellValue,
-    tokens: Tokens,
-) -> Cell
-    requires { (at + 6 ≤ length s.now) × (q + 2 ≤ length s.now) }
-    ensures { result ≡ cell_with s.now at column q kind field value tokens }
+// The k-th of the n cells of a record. Inlined, since each call knows f: no choice by it is then left.
+#[inline(always)]
+fn cell_at(s: &[u8], at: usize, f: Field, n: u16, k: u16) -> Option<Found>
+    requires { (0 < n → at + 8 + n * part_of f ≤ length s.now) × (1 < n → first_at s.now at + n ≤ 256) }
+    ensures { result ≡ found_in s.now at f n k }
 {
-    Cell {
-        row: byte_numbers::u16_at(s, at + 4),
-        column,
-        value,
-        tokens,
-        format: byte_numbers::u16_at(s, q),
-        kind,
-        field,
-    }
-}
-
-// The one cell of a record.
-fn single(s: &[u8], at: usize, kind: Field, field: usize, value: CellValue, tokens: Tokens) -> Found
-    requires { at + 10 ≤ length s.now }
-    ensures { result ≡ single_of s.now at kind field value tokens }
-{
-    let column = byte_numbers::u16_at(s, at + 6);
-    let cell = cell_with(s, at, column, at + 8, kind, field, value, tokens);
-    Found::There { cell, left: 0 }
-}
-
-fn blank_cell(s: &[u8], at: usize, size: usize, k: u16) -> Found
-    requires { at + 4 + size ≤ length s.now }
-    ensures { result ≡ found_of s.now Shape.BLANK at size k }
-{
-    if size != 6 {
-        return Found::Absent;
-    }
-    if 0 < k {
-        return Found::Absent;
-    }
-    single(s, at, Field::NoField, at + 8, CellValue::Blank, no_tokens())
-}
-
-fn number_cell(s: &[u8], at: usize, size: usize, k: u16) -> Found
-    requires { at + 4 + size ≤ length s.now }
-    ensures { result ≡ found_of s.now Shape.NUMBER at size k }
-{
-    if size != 14 {
-        return Found::Absent;
-    }
-    if 0 < k {
-        return Found::Absent;
-    }
-    let q = at + 8;
-    let value = value::float_value(byte_numbers::u64_at(s, q + 2));
-    single(s, at, Field::Float, q + 2, value, no_tokens())
-}
-
-fn rk_cell(s: &[u8], at: usize, size: usize, k: u16) -> Found
-    requires { at + 4 + size ≤ length s.now }
-    ensures { result ≡ found_of s.now Shape.RK at size k }
-{
-    if size != 10 {
-        return Found::Absent;
-    }
-    if 0 < k {
-        return Found::Absent;
-    }
-    let q = at + 8;
-    let value = value::rk_value(byte_numbers::u32_at(s, q + 2));
-    single(s, at, Field::RkWord, q + 2, value, no_tokens())
-}
-
-fn labelsst_cell(s: &[u8], at: usize, size: usize, k: u16) -> Found
-    requires { at + 4 + size ≤ length s.now }
-    ensures { result ≡ found_of s.now Shape.LABELSST at size k }
-{
-    if size != 10 {
-        return Found::Absent;
-    }
-    if 0 < k {
-        return Found::Absent;
-    }
-    let q = at + 8;
-    let value = CellValue::Text(byte_numbers::u32_at(s, q + 2));
-    single(s, at, Field::TextIndex, q + 2, value, no_tokens())
-}
-
-fn boolerr_cell(s: &[u8], at: usize, size: usize, k: u16) -> Found
-    requires { at + 4 + size ≤ length s.now }
-    ensures { result ≡ found_of s.now Shape.BOOLERR at size k }
-{
-    if size != 8 {
-        return Found::Absent;
-    }
-    if 0 < k {
-        return Found::Absent;
-    }
-    let q = at + 8;
-    let value = value::truth_error_value(byte_numbers::u16_at(s, q + 2));
-    single(s, at, Field::TruthError, q + 2, value, no_tokens())
-}
-
-// The k-th cell of a multiple record that has it.
-fn rk_part(s: &[u8], at: usize, k: u16) -> Cell
-    requires { (at + 8 + k * 6 + 6 ≤ length s.now) × (first_at s.now at + k < 65536) }
-    ensures { result ≡ cell_of s.now Field.RkWord at k }
-{
-    let column = byte_numbers::u16_at(s, at + 6) + k;
-    let q = at + 8 + byte_numbers::u16_as_usize(k) * 6;
-    let value = value::rk_value(byte_numbers::u32_at(s, q + 2));
-    cell_with(s, at, column, q, Field::RkWord, q + 2, value, no_tokens())
-}
-
-fn blank_part(s: &[u8], at: usize, k: u16) -> Cell
-    requires { (at + 8 + k * 2 + 2 ≤ length s.now) × (first_at s.now at + k < 65536) }
-    ensures { result ≡ cell_of s.now Field.NoField at k }
-{
-    let column = byte_numbers::u16_at(s, at + 6) + k;
-    let q = at + 8 + byte_numbers::u16_as_usize(k) * 2;
-    cell_with(
-        s,
-        at,
-        column,
-        q,
-        Field::NoField,
-        q,
-        CellValue::Blank,
-        no_tokens(),
-    )
-}
-
-fn mulrk_cell(s: &[u8], at: usize, size: usize, k: u16) -> Found
-    requires { at + 4 + size ≤ length s.now }
-    ensures { result ≡ found_of s.now Shape.MULRK at size k }
-{
-    let n = multiple_count(s, at, size, 6);
     if n <= k {
-        return Found::Absent;
+        return None;
     }
-    let cell = rk_part(s, at, k);
-    Found::There {
-        cell,
+    let q = at + 8 + usize::from(k) * part_of(f);
+    Some(Found {
+        cell: Cell {
+            row: byte_numbers::u16_at(s, at + 4),
+            column: byte_numbers::u16_at(s, at + 6) + k,
+            value: value_at(s, f, q),
+            tokens: tokens_at(s, f, q),
+            format: byte_numbers::u16_at(s, q),
+            kind: f,
+            field: q + start_of(f),
+        },
         left: n - (k + 1),
-    }
-}
-
-fn mulblank_cell(s: &[u8], at: usize, size: usize, k: u16) -> Found
-    requires { at + 4 + size ≤ length s.now }
-    ensures { result ≡ found_of s.now Shape.MULBLANK at size k }
-{
-    let n = multiple_count(s, at, size, 2);
-    if n <= k {
-        return Found::Absent;
-    }
-    let cell = blank_part(s, at, k);
-    Found::There {
-        cell,
-        left: n - (k + 1),
-    }
-}
-
-fn formula_cell(s: &[u8], at: usize, size: usize, k: u16) -> Found
-    requires { at + 4 + size ≤ length s.now }
-    ensures { result ≡ found_of s.now Shape.FORMULA at size k }
-{
-    if size < 22 {
-        return Found::Absent;
-    }
-    let q = at + 8;
-    let length = byte_numbers::u16_at(s, q + 16);
-    if size < 22 + byte_numbers::u16_as_usize(length) {
-        return Found::Absent;
-    }
-    if 0 < k {
-        return Found::Absent;
-    }
-    let value = CellValue::Formula(value::result_value(byte_numbers::u64_at(s, q + 2)));
-    let tokens = Tokens {
-        start: q + 18,
-        length,
-    };
-    single(s, at, Field::StoredResult, q + 2, value, tokens)
+    })
 }
 
 // The k-th cell, counted from 0, of the record of this type at `at`, whose body has `size` bytes.
-pub fn record_cell(s: &[u8], at: usize, kind: u16, size: usize, k: u16) -> Found
+pub fn record_cell(s: &[u8], at: usize, kind: u16, size: usize, k: u16) -> Option<Found>
     requires { at + 4 + size ≤ length s.now }
     ensures { result ≡ found_of s.now (shape_of kind) at size k }
 {
     match kind {
-        0x0201 => blank_cell(s, at, size, k),
-        0x0203 => number_cell(s, at, size, k),
-        0x027E => rk_cell(s, at, size, k),
-        0x00FD => labelsst_cell(s, at, size, k),
-        0x0205 => boolerr_cell(s, at, size, k),
-        0x00BD => mulrk_cell(s, at, size, k),
-        0x00BE => mulblank_cell(s, at, size, k),
-        0x0006 => formula_cell(s, at, size, k),
-        _ => Found::Absent,
+        0x0201 => cell_at(s, at, Field::NoField, one_cell(size, 6), k),
+        0x0203 => cell_at(s, at, Field::Float, one_cell(size, 14), k),
+        0x027E => cell_at(s, at, Field::RkWord, one_cell(size, 10), k),
+        0x00FD => cell_at(s, at, Field::TextIndex, one_cell(size, 10), k),
+        0x0205 => cell_at(s, at, Field::TruthError, one_cell(size, 8), k),
+        0x00BD => cell_at(s, at, Field::RkWord, multiple_count(s, at, size, 6), k),
+        0x00BE => cell_at(s, at, Field::NoField, multiple_count(s, at, size, 2), k),
+        0x0006 => cell_at(s, at, Field::StoredResult, formula_cells(s, at, size), k),
+        _ => None,
     }
 }
 
-// ---- how many cells a record has, for those who need no more
+// ---- how many cells a record has
 
 fn one_cell(size: usize, needed: usize) -> u16
     ensures { result ≡ sized size needed 1 }
 {
-    if size == needed {
-        return 1;
-    }
-    0
+    u16::from(size == needed)
 }
 
 fn formula_cells(s: &[u8], at: usize, size: usize) -> u16
     requires { at + 4 + size ≤ length s.now }
     ensures { result ≡ count_of Shape.FORMULA s.now at size }
 {
-    if size < 22 {
-        return 0;
-    }
-    let q = at + 8;
-    if size < 22 + byte_numbers::u16_as_usize(byte_numbers::u16_at(s, q + 16)) {
-        return 0;
-    }
-    1
+    u16::from(22 <= size && 22 + usize::from(byte_numbers::u16_at(s, at + 24)) <= size)
 }
 
 // How many cells the record has: none where its size is wrong, and where it is no cell record.
@@ -520,8 +299,7 @@ pub fn cell_count(s: &[u8], at: usize, kind: u16, size: usize) -> u16
     match kind {
         0x0201 => one_cell(size, 6),
         0x0203 => one_cell(size, 14),
-        0x027E => one_cell(size, 10),
-        0x00FD => one_cell(size, 10),
+        0x027E | 0x00FD => one_cell(size, 10),
         0x0205 => one_cell(size, 8),
         0x00BD => multiple_count(s, at, size, 6),
         0x00BE => multiple_count(s, at, size, 2),

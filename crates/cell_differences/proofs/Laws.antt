@@ -5,59 +5,31 @@ use mathlib.Core.Bool.{Bool, true, false}
 use mathlib.Core.List.{List, [], ◌∷◌, ◌++◌}
 use native.Mathlib.Omega.{arith}
 use lib.ListN.{length}
-use lib.Dec.{ltb}
-use Rattle.steps.proofs.Choice.{pick_lt, pick_nlt, pick_by, pick_true, pick_false}
-use borrow.Author.Tests.{ltb-true, ltb-false}
+use Rattle.std.proofs.Common.{Ordering, Less, Equal, Greater}
+use Rattle.std.specs.Ordering.{MatchOrdering, nat_cmp}
+use Rattle.std.specs.Cmp.{ranked}
+use Rattle.steps.proofs.Choice.{pick_true, pick_false}
 use Rattle.cell.specs.declared.Cell.{Cell}
 use Rattle.value.specs.declared.CellValue.{CellValue}
-use Rattle.reading.specs.declared.Place.{Place}
-use Rattle.reading.specs.Cells.{listed_from}
 use Rattle.differences.specs.Differences.{Difference, none, unequal, alike, words_of, words_from}
 use Rattle.differences.specs.Units.{units_by}
 use Rattle.differences.proofs.Laws.{words_split, words_none}
 use Rattle.cell_addresses.specs.declared.Head.{Head}
-use Rattle.cell_addresses.specs.Addresses.{holds, value_in, Ascends, Least, Follows, Onward, When}
-use Rattle.cell_addresses.proofs.Laws.{seek_start}
+use Rattle.cell_addresses.specs.Addresses.{holds, value_in, Least}
 use Rattle.cell_differences.proofs.Puts.{puts_part, to_part, length_puts, puts_full, to_stays}
-use Rattle.cell_differences.specs.declared.Turn.{Turn}
-use Rattle.cell_differences.specs.declared.Turn.TheVariants as turn
-use Rattle.cell_differences.specs.Merge.{puts, put_to, turn_of, at_both, differs, words_between}
+use Rattle.cell_differences.specs.Merge.{puts, put_to, at_both, differs, words_between}
+use Rattle.cell_differences.specs.Sides.{FoundFrom, Next}
 
--- ---- whose turn it is
-module _ (a b : ℕ) where
-  pub turn_first : a < b → turn.First ≡ turn_of a b
-  unfolding turn_of
-  turn_first h = pick_lt _ _ _ a b h refl
+-- ---- what an answer of `cmp` says
+module _ {x y : ℕ} {r : Ordering} (e : r ≡ nat_cmp x y) where
+  pub is_less : r ≡ Less → x < y
+  is_less i = subst (λ (z : Ordering). MatchOrdering z (x < y) (x ≡ y) (y < x)) i (ranked x y r e)
 
-  pub turn_second : b ≤ a → b < a → turn.Second ≡ turn_of a b
-  unfolding turn_of
-  turn_second i h = pick_nlt _ _ _ a b i (pick_lt _ _ _ b a h refl)
+  pub is_greater : r ≡ Greater → y < x
+  is_greater i = subst (λ (z : Ordering). MatchOrdering z (x < y) (x ≡ y) (y < x)) i (ranked x y r e)
 
-  pub turn_both : b ≤ a → a ≤ b → a < 4294967296 → turn.Both ≡ turn_of a b
-  unfolding turn_of
-  turn_both i j h = pick_nlt _ _ _ a b i (pick_nlt _ _ _ b a j (pick_lt _ _ _ a 4294967296 h refl))
-
-  pub turn_end : b ≤ a → a ≤ b → 4294967296 ≤ a → turn.End ≡ turn_of a b
-  unfolding turn_of
-  turn_end i j h = pick_nlt _ _ _ a b i (pick_nlt _ _ _ b a j (pick_nlt _ _ _ a 4294967296 h refl))
-
-  abbrev Said : Turn → Type 0
-  Said turn.First = a < b
-  Said turn.Second = b < a
-  Said turn.Both = (a ≡ b) × (a < 4294967296)
-  Said turn.End = (a ≡ b) × (4294967296 ≤ a)
-
-  said : Said (turn_of a b)
-  unfolding turn_of
-  said =
-      pick_by Said (ltb a b) (λ i. ltb-true a b i)
-      (λ i. pick_by Said (ltb b a) (λ j. ltb-true b a j)
-      (λ j. let x = ltb-false a b i in let y = ltb-false b a j in pick_by Said (ltb a 4294967296) (λ k. (omega arith, ltb-true a 4294967296 k)) (λ k. (omega arith, ltb-false a 4294967296 k))))
-
-  pub turn_is : (r z : Turn) → r ≡ turn_of a b → r ≡ z → Said z
-  turn_is r z i h = subst Said (sym i ∙ h) said
-
-pub ruleset turn_laws = (turn_first, turn_second, turn_both, turn_end)
+  pub is_equal : r ≡ Equal → x ≡ y
+  is_equal i = subst (λ (z : Ordering). MatchOrdering z (x < y) (x ≡ y) (y < x)) i (ranked x y r e)
 
 -- ---- the words
 module _ (s t : List ℕ) (p q : List (List ℕ)) (l m : List Cell) (base k : ℕ) (x y : Head) (f : Least l k x) (g : Least m k y) where
@@ -140,95 +112,88 @@ module _ (s t : List ℕ) (p q : List (List ℕ)) (v w : CellValue) (a c : ℕ) 
 
 pub ruleset unequal_laws = (same_to, same_puts, differ_to, differ_puts)
 
--- ---- the merge on its way: x and y are the next cells from address k on, j words stand in the buffer
-pub start_when : (s : List ℕ) (v : Place) (k : ℕ) (b : Bool) → Ascends (listed_from s v) b → When b (Follows s (listed_from s v) v k)
-start_when s v k true a = seek_start s v k a
-start_when s v k false a = tt
-
-pub record Going (s : List ℕ) (l l' : List Cell) (p : List (List ℕ)) (t : List ℕ) (m m' : List Cell) (q : List (List ℕ)) (base from i : ℕ) (out₀ : List ℕ) (up down : Bool) (out : List ℕ) (x y : Head) (k j : ℕ) : Type 0 where
-  pub first : Least l k x
-  pub second : Least m k y
-  pub first_on : When up (Onward s l' x)
-  pub second_on : When down (Onward t m' y)
+-- ---- the merge on its way: x and y are the next cells, j words stand in the buffer, and from address `at` on the lists `one` and `two` tell what is left to tell
+pub record Going (f g : FoundFrom) (s t : List ℕ) (p q : List (List ℕ)) (l m : List Cell) (base from i : ℕ) (out₀ out : List ℕ) (x y : Head) (j : ℕ) : Type 0 where
+  pub at : ℕ
+  pub one : List Cell
+  pub two : List Cell
+  pub first : Least one at x
+  pub second : Least two at y
+  pub first_next : f one x.next (x.address + 1)
+  pub second_next : g two y.next (y.address + 1)
   pub size : length out ≡ length out₀
-  pub words : puts out₀ i (words_between s t p q l m base from) ≡ puts out j (words_between s t p q l m base k)
-  pub count : put_to (length out₀) i (words_between s t p q l m base from) ≡ put_to (length out) j (words_between s t p q l m base k)
+  pub words : puts out₀ i (words_between s t p q l m base from) ≡ puts out j (words_between s t p q one two base at)
+  pub count : put_to (length out₀) i (words_between s t p q l m base from) ≡ put_to (length out) j (words_between s t p q one two base at)
 
-module _ (s : List ℕ) (l l' : List Cell) (p : List (List ℕ)) (t : List ℕ) (m m' : List Cell) (q : List (List ℕ)) (base from i : ℕ) (out₀ : List ℕ) (up down : Bool) where
-  abbrev State : List ℕ → Head → Head → ℕ → ℕ → Type 0
-  State out x y k j = Going s l l' p t m m' q base from i out₀ up down out x y k j
-
-  pub going_start : (x y : Head) → Least l from x × When up (Onward s l' x) → Least m from y × When down (Onward t m' y) → State out₀ x y from i
-  going_start x y f g = record { first = f.0; second = g.0; first_on = f.1; second_on = g.1; size = refl; words = refl; count = refl }
-
-  module _ (out : List ℕ) (x y : Head) (k j : ℕ) (g : State out x y k j) where
-    pub first_low : x.address < y.address → (x.address + 1 ≤ 4294967296) × (k < x.address + 1)
-    first_low h = (let a = g.second.high in omega arith, let b = g.first.low in omega arith)
-
-    pub second_low : y.address < x.address → (y.address + 1 ≤ 4294967296) × (k < y.address + 1)
-    second_low h = (let a = g.first.high in omega arith, let b = g.second.low in omega arith)
-
-    pub both_low : x.address < 4294967296 → (x.address + 1 ≤ 4294967296) × (k < x.address + 1)
-    both_low h = (omega arith, let b = g.first.low in omega arith)
-
-    module _ (out' : List ℕ) (j' : ℕ) where
-      pub going_first : (x' : Head) → x.address < y.address → j' ≡ put_to (length out) j (((base + x.address) * 4 + 1) ∷ []) → out' ≡ puts out j (((base + x.address) * 4 + 1) ∷ [])
-          → Least l (x.address + 1) x' × When up (Onward s l' x') → State out' x' y (x.address + 1) j'
-      going_first x' h a b f =
-          let e = first_words s t p q l m base k x y g.first g.second h in
-          let n = ap length b ∙ length_puts out j (((base + x.address) * 4 + 1) ∷ []) in
+module _ {f g : FoundFrom} {s t : List ℕ} {p q : List (List ℕ)} {l m : List Cell} {base from i : ℕ} {out₀ : List ℕ} where
+  module _ {out : List ℕ} {x y : Head} {j : ℕ} (h : Going f g s t p q l m base from i out₀ out x y j) where
+    module _ {out' : List ℕ} {j' : ℕ} where
+      pub going_first : {x' : Head} → x.address < y.address → j' ≡ put_to (length out) j (((base + x.address) * 4 + 1) ∷ []) → out' ≡ puts out j (((base + x.address) * 4 + 1) ∷ [])
+          → Least h.one (x.address + 1) x' × f h.one x'.next (x'.address + 1) → Going f g s t p q l m base from i out₀ out' x' y j'
+      going_first {x'} o a b n =
+          let e = first_words s t p q h.one h.two base h.at x y h.first h.second o in
+          let c = ap length b ∙ length_puts out j (((base + x.address) * 4 + 1) ∷ []) in
           record {
-            first = f.0;
-            second = least_later m k (x.address + 1) y g.second (let z = g.first.low in omega arith) (omega arith);
-            first_on = f.1;
-            second_on = g.second_on;
-            size = n ∙ g.size;
-            words = puts_part _ out out' (((base + x.address) * 4 + 1) ∷ []) (words_between s t p q l m base (x.address + 1)) _ j j' g.words e b a;
-            count = to_part _ (length out) (length out') (((base + x.address) * 4 + 1) ∷ []) (words_between s t p q l m base (x.address + 1)) _ j j' g.count e n a;
+            at = x.address + 1;
+            one = h.one;
+            two = h.two;
+            first = n.0;
+            second = least_later h.two h.at (x.address + 1) y h.second (let z = h.first.low in omega arith) (omega arith);
+            first_next = n.1;
+            second_next = h.second_next;
+            size = c ∙ h.size;
+            words = puts_part _ out out' (((base + x.address) * 4 + 1) ∷ []) (words_between s t p q h.one h.two base (x.address + 1)) _ j j' h.words e b a;
+            count = to_part _ (length out) (length out') (((base + x.address) * 4 + 1) ∷ []) (words_between s t p q h.one h.two base (x.address + 1)) _ j j' h.count e c a;
           }
 
-      pub going_second : (y' : Head) → y.address < x.address → j' ≡ put_to (length out) j (((base + y.address) * 4 + 2) ∷ []) → out' ≡ puts out j (((base + y.address) * 4 + 2) ∷ [])
-          → Least m (y.address + 1) y' × When down (Onward t m' y') → State out' x y' (y.address + 1) j'
-      going_second y' h a b f =
-          let e = second_words s t p q l m base k x y g.first g.second h in
-          let n = ap length b ∙ length_puts out j (((base + y.address) * 4 + 2) ∷ []) in
+      pub going_second : {y' : Head} → y.address < x.address → j' ≡ put_to (length out) j (((base + y.address) * 4 + 2) ∷ []) → out' ≡ puts out j (((base + y.address) * 4 + 2) ∷ [])
+          → Least h.two (y.address + 1) y' × g h.two y'.next (y'.address + 1) → Going f g s t p q l m base from i out₀ out' x y' j'
+      going_second {y'} o a b n =
+          let e = second_words s t p q h.one h.two base h.at x y h.first h.second o in
+          let c = ap length b ∙ length_puts out j (((base + y.address) * 4 + 2) ∷ []) in
           record {
-            first = least_later l k (y.address + 1) x g.first (let z = g.second.low in omega arith) (omega arith);
-            second = f.0;
-            first_on = g.first_on;
-            second_on = f.1;
-            size = n ∙ g.size;
-            words = puts_part _ out out' (((base + y.address) * 4 + 2) ∷ []) (words_between s t p q l m base (y.address + 1)) _ j j' g.words e b a;
-            count = to_part _ (length out) (length out') (((base + y.address) * 4 + 2) ∷ []) (words_between s t p q l m base (y.address + 1)) _ j j' g.count e n a;
+            at = y.address + 1;
+            one = h.one;
+            two = h.two;
+            first = least_later h.one h.at (y.address + 1) x h.first (let z = h.second.low in omega arith) (omega arith);
+            second = n.0;
+            first_next = h.first_next;
+            second_next = n.1;
+            size = c ∙ h.size;
+            words = puts_part _ out out' (((base + y.address) * 4 + 2) ∷ []) (words_between s t p q h.one h.two base (y.address + 1)) _ j j' h.words e b a;
+            count = to_part _ (length out) (length out') (((base + y.address) * 4 + 2) ∷ []) (words_between s t p q h.one h.two base (y.address + 1)) _ j j' h.count e c a;
           }
 
-      pub going_both : (x' y' : Head) → (x.address ≡ y.address) × (x.address < 4294967296)
+      pub going_both : {x' y' : Head} → x.address ≡ y.address → x.address < 4294967296
           → j' ≡ put_to (length out) j (words_of (base + x.address) (at_both s t p q (holds x.value x.field) (holds y.value y.field)))
           → out' ≡ puts out j (words_of (base + x.address) (at_both s t p q (holds x.value x.field) (holds y.value y.field)))
-          → Least l (x.address + 1) x' × When up (Onward s l' x') → Least m (x.address + 1) y' × When down (Onward t m' y') → State out' x' y' (x.address + 1) j'
-      going_both x' y' h a b f o =
+          → Next f g s t p q h.one h.two (x.address + 1) x' y' → Going f g s t p q l m base from i out₀ out' x' y' j'
+      going_both {x'} {y'} o k a b n =
           let ws = words_of (base + x.address) (at_both s t p q (holds x.value x.field) (holds y.value y.field)) in
-          let e = both_words s t p q l m base k x y g.first g.second h.0 h.1 in
-          let n = ap length b ∙ length_puts out j ws in
+          let e = both_words s t p q h.one h.two base h.at x y h.first h.second o k in
+          let c = ap length b ∙ length_puts out j ws in
           record {
-            first = f.0;
-            second = o.0;
-            first_on = f.1;
-            second_on = o.1;
-            size = n ∙ g.size;
-            words = puts_part _ out out' ws (words_between s t p q l m base (x.address + 1)) _ j j' g.words e b a;
-            count = to_part _ (length out) (length out') ws (words_between s t p q l m base (x.address + 1)) _ j j' g.count e n a;
+            at = x.address + 1;
+            one = n.one;
+            two = n.two;
+            first = n.first;
+            second = n.second;
+            first_next = n.first_next;
+            second_next = n.second_next;
+            size = c ∙ h.size;
+            words = puts_part _ out out' ws (words_between s t p q h.one h.two base (x.address + 1)) _ j j' h.words e b a ∙ ap (puts out' j') (n.words base);
+            count = to_part _ (length out) (length out') ws (words_between s t p q h.one h.two base (x.address + 1)) _ j j' h.count e c a ∙ ap (put_to (length out') j') (n.words base);
           }
 
-    pub follow_both : x.address ≡ y.address → When down (Follows t m' y.next (x.address + 1))
-    follow_both e = subst (λ (z : ℕ). When down (Follows t m' y.next (z + 1))) (sym e) g.second_on
+    pub second_both : x.address ≡ y.address → g h.two y.next (x.address + 1)
+    second_both e = subst (λ (z : ℕ). g h.two y.next (z + 1)) (sym e) h.second_next
 
     -- nothing is left, or no room
-    pub going_end : (x.address ≡ y.address) × (4294967296 ≤ x.address) → (j ≡ put_to (length out₀) i (words_between s t p q l m base from)) × (out ≡ puts out₀ i (words_between s t p q l m base from))
+    pub going_end : x.address ≡ y.address → 4294967296 ≤ x.address → (j ≡ put_to (length out₀) i (words_between s t p q l m base from)) × (out ≡ puts out₀ i (words_between s t p q l m base from))
     unfolding puts put_to
-    going_end h =
-        let e = end_words s t p q l m base k x y g.first g.second h.0 h.1 in
-        (sym (g.count ∙ ap (put_to (length out) j) e), sym (g.words ∙ ap (puts out j) e))
+    going_end o k =
+        let e = end_words s t p q h.one h.two base h.at x y h.first h.second o k in
+        (sym (h.count ∙ ap (put_to (length out) j) e), sym (h.words ∙ ap (puts out j) e))
 
     pub going_full : length out < j → (j ≡ put_to (length out₀) i (words_between s t p q l m base from)) × (out ≡ puts out₀ i (words_between s t p q l m base from))
-    going_full h = (sym (g.count ∙ to_stays (length out) j (words_between s t p q l m base k) h), sym (g.words ∙ puts_full out j (words_between s t p q l m base k) (omega arith)))
+    going_full k = (sym (h.count ∙ to_stays (length out) j (words_between s t p q h.one h.two base h.at) k), sym (h.words ∙ puts_full out j (words_between s t p q h.one h.two base h.at) (omega arith)))

@@ -1,14 +1,11 @@
 -- What the contracts speak of.
-use Rattle.std.specs.Prelude.{ℕ, ◌+◌, ◌-◌, Bool, List, [], ◌∷◌, length, set, ltb, leb}
+use Rattle.std.specs.Prelude.{ℕ, ◌+◌, ◌-◌, List, [], ◌∷◌, length, set, ltb, leb}
 use Rattle.steps.specs.Choice.{pick}
 use Rattle.cell.specs.declared.Cell.{Cell}
 use Rattle.reading.specs.Cells.{place_at, listed_from}
 use Rattle.reading.specs.Reading.{strings_at}
 use Rattle.differences.specs.Differences.{Difference, between, words_from}
 use Rattle.cell_addresses.specs.Addresses.{Stood, told, value_in}
-use Rattle.address_windows.specs.Windows.{side_list}
-use Rattle.cell_differences.specs.declared.Turn.{Turn}
-use Rattle.cell_differences.specs.declared.Turn.TheVariants as turn
 
 -- ---- words put into a buffer after the i that it has, as long as it has room. How many there then are, where a buffer has room for n: the count goes on to
 -- the first for which there is none
@@ -21,9 +18,6 @@ put_to n i [] = i
 put_to n i (w ∷ l) = pick (leb i n) (put_to n (i + 1) l) i
 
 -- ---- the differences between two lists of cells
-unfoldable pub turn_of : ℕ → ℕ → Turn
-turn_of a b = pick (ltb a b) turn.First (pick (ltb b a) turn.Second (pick (ltb a 4294967296) turn.Both turn.End))
-
 -- what stands at one place of both streams, s with the strings p and t with the strings q
 abbrev pub at_both : List ℕ → List ℕ → List (List ℕ) → List (List ℕ) → Stood → Stood → Difference
 at_both s t p q x y = between p q (told s x) (told t y)
@@ -37,7 +31,3 @@ words_between s t p q l m base k = words_from (λ key. differs s t p q l m (key 
 
 abbrev pub cell_words : List ℕ → ℕ → ℕ → List ℕ → ℕ → ℕ → ℕ → ℕ → List ℕ
 cell_words s v p t w q base k = words_between s t (strings_at s p) (strings_at t q) (listed_from s (place_at v 0)) (listed_from t (place_at w 0)) base k
-
--- between the lists that `advance` goes by
-abbrev pub side_words : List ℕ → ℕ → Bool → List ℕ → ℕ → ℕ → List ℕ → ℕ → Bool → List ℕ → ℕ → ℕ → ℕ → ℕ → ℕ → List ℕ
-side_words s v up a ac p t w down b bc q base k high = words_between s t (strings_at s p) (strings_at t q) (side_list s v up a ac high) (side_list t w down b bc high) base k

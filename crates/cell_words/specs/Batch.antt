@@ -1,5 +1,5 @@
 -- Cells in words: four 64-bit words a cell.
-use Rattle.std.specs.Prelude.{ℕ, zero, suc, ◌+◌, ◌*◌, ◌/◌, List, [], ◌∷◌, Bool, true, false, length}
+use Rattle.std.specs.Prelude.{ℕ, zero, suc, ◌+◌, ◌*◌, ◌/◌, List, [], ◌∷◌, Option, Some, None, length}
 use Rattle.std.proofs.lemmas.List.Edits.{sets}
 use Rattle.number.specs.Float64.{bits_of}
 use Rattle.value.specs.declared.FormulaResult.{FormulaResult}
@@ -9,10 +9,8 @@ use Rattle.value.specs.declared.CellValue.TheVariants as value
 use Rattle.cell.specs.declared.Cell.{Cell}
 use Rattle.cell.specs.declared.Tokens.{Tokens}
 use Rattle.reading.specs.declared.Place.{Place}
-use Rattle.reading.specs.Cells.{place_at}
 use Rattle.reading.specs.Reading.{trailing_size}
 use Rattle.listing.specs.declared.Listed.{Listed}
-use Rattle.listing.specs.declared.Listed.TheVariants as listed
 use Rattle.listing.specs.Listing.{next_of}
 use Rattle.cell_words.specs.declared.Filled.{Filled}
 
@@ -64,26 +62,24 @@ sizes_word s t = t.length + trailing_size s t * 65536
 abbrev pub words_of : List ℕ → Cell → List ℕ
 words_of s c = head_word c ∷ value_word c.value ∷ c.field ∷ sizes_word s c.tokens ∷ []
 
--- how far a listing came: the words, the number of cells, whether it ended, and where it goes on if not
+-- how far a listing came: the words, the number of cells, and where it goes on if it has not ended
 pub record Batch : Type 0 where
   pub words : List ℕ
   pub cells : ℕ
-  pub ended : Bool
-  pub place : Place
+  pub rest : Option Place
 
-abbrev pub on_listed : (Cell → Place → Batch) → Batch → Listed → Batch
-on_listed on end (listed.Cell c w) = on c w
-on_listed on end listed.End = end
+abbrev pub on_listed : (Cell → Place → Batch) → Batch → Option Listed → Batch
+on_listed on end (Some x) = on x.cell x.next
+on_listed on end None = end
 
 -- at most k cells from v on, put into b after the n that it has
 unfoldable pub filled : ℕ → List ℕ → Place → ℕ → List ℕ → Batch
-filled zero s v n b = record { words = b; cells = n; ended = false; place = v }
-filled (suc k) s v n b =
-    on_listed (λ c w. filled k s w (n + 1) (sets b (4 * n) (words_of s c))) (record { words = b; cells = n; ended = true; place = place_at 0 0 }) (next_of s v)
+filled zero s v n b = record { words = b; cells = n; rest = Some v }
+filled (suc k) s v n b = on_listed (λ c w. filled k s w (n + 1) (sets b (4 * n) (words_of s c))) (record { words = b; cells = n; rest = None }) (next_of s v)
 
 -- as many as there is room for
 abbrev pub filled_from : List ℕ → Place → List ℕ → Batch
 filled_from s v b = filled (length b / 4) s v 0 b
 
 abbrev pub filled_seen : Batch → Filled
-filled_seen x = record { cells = x.cells; ended = x.ended; place = x.place }
+filled_seen x = record { cells = x.cells; rest = x.rest }

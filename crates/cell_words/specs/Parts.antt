@@ -1,27 +1,30 @@
 -- What the contracts of the inner functions speak of.
-use Rattle.std.specs.Prelude.{ℕ, zero, suc, ◌+◌, ◌-◌, ◌*◌, ◌≤◌, ◌<◌, ◌≡◌, List, [], ◌∷◌, length, eqb}
+use Rattle.std.specs.Prelude.{ℕ, zero, suc, ◌+◌, ◌-◌, ◌*◌, ◌≤◌, ◌<◌, ◌≡◌, List, Option, Some, None, length, eqb}
 use Rattle.std.proofs.lemmas.List.Edits.{sets}
 use Rattle.steps.specs.Choice.{pick}
 use Rattle.value.specs.declared.Field.{Field}
+use Rattle.value.specs.Value.{value_of}
 use Rattle.byte_numbers.specs.Bytes.{u16_at}
 use Rattle.steps.specs.Items.{Item, gives, skips, ends}
-use Rattle.cell.specs.declared.Shape.{Shape}
 use Rattle.cell.specs.declared.Cell.{Cell}
-use Rattle.cell.specs.Cells.{field_of, part_of, count_of, cell_of}
-use Rattle.listing.specs.declared.Listed.TheVariants as listed
+use Rattle.cell.specs.Cells.{part_of, cell_of}
 use Rattle.listing.specs.Listing.{next_of}
 use Rattle.cell_words.specs.declared.Said.{Said}
+use Rattle.cell_words.specs.declared.Cells.{Cells}
 use Rattle.cell_words.specs.declared.Done.{Done}
 use Rattle.cell_words.specs.declared.Done.TheVariants as done
-use Rattle.cell_words.specs.declared.Advance.{Advance}
-use Rattle.cell_words.specs.declared.Advance.TheVariants as step
+use Rattle.cell_words.specs.declared.Reached.{Reached}
 use Rattle.reading.specs.declared.Place.{Place}
 use Rattle.reading.specs.Cells.{place_at, remaining}
-use Rattle.cell_words.specs.Batch.{words_of, filled}
+use Rattle.cell_words.specs.Batch.{value_kind, value_word, words_of, filled}
 
--- the words of the one cell of the record at `at`
-abbrev pub one_words : List ℕ → ℕ → Said → ℕ → ℕ → List ℕ
-one_words s at x field sizes = (u16_at s (at + 4) + u16_at s (at + 6) * 65536 + u16_at s (at + 8) * 4294967296 + x.kind * 281474976710656) ∷ x.word ∷ field ∷ sizes ∷ []
+-- what a value field says
+abbrev pub said_of : Field → ℕ → Said
+said_of f n = record { kind = value_kind (value_of f n); word = value_word (value_of f n) }
+
+-- the cells of the record at `at`
+abbrev pub cells_at : List ℕ → ℕ → Field → Cells
+cells_at s at f = record { at = at; field = f; row = u16_at s (at + 4); first = u16_at s (at + 6) }
 
 -- j cells of the record at `at` from the k-th on, put into b after the n that it has
 unfoldable pub parts_in : List ℕ → Field → ℕ → ℕ → ℕ → ℕ → List ℕ → List ℕ
@@ -36,19 +39,18 @@ PartRoom s f at k b n = (at + 8 + k * part_of f + part_of f ≤ length s) × (u1
 abbrev pub PartsRoom : List ℕ → Field → ℕ → ℕ → ℕ → List ℕ → ℕ → Type 0
 PartsRoom s f at k last b n = (k ≤ last) × (at + 8 + last * part_of f ≤ length s) × (u16_at s (at + 6) + last ≤ 256) × (4 * (n + (last - k)) ≤ length b)
 
--- a record's cells were put into b, after the n that it has, from the k-th on up to the last-th, at least one
-pub record Put (s : List ℕ) (h : Shape) (at z k n room : ℕ) (b : List ℕ) (count last : ℕ) (d : List ℕ) : Type 0 where
-  pub counted : count ≡ count_of h s at z
+-- of a record's cells, `count` in all, were put into b, after the n that it has, from the k-th on up to the last-th, at least one
+pub record Put (s : List ℕ) (f : Field) (at count k n room : ℕ) (b : List ℕ) (last : ℕ) (d : List ℕ) : Type 0 where
   pub order : k < last
   pub within : last ≤ count
   pub fits : last - k ≤ room
-  pub words : d ≡ parts_in s (field_of h) at k (last - k) n b
+  pub words : d ≡ parts_in s f at k (last - k) n b
 
 -- what was done with a record: its one cell was put, or of its parts those up to the last-th, or it has none from the k-th on
-abbrev pub Did : List ℕ → Shape → ℕ → ℕ → ℕ → ℕ → ℕ → List ℕ → List ℕ → Done → Type 0
-Did s h at z k n room b d done.One = Put s h at z k n room b 1 1 d
-Did s h at z k n room b d (done.Parts count last) = Put s h at z k n room b count last d
-Did s h at z k n room b d done.None = (count_of h s at z ≤ k) × (d ≡ b)
+abbrev pub Did : List ℕ → Field → ℕ → ℕ → ℕ → ℕ → ℕ → List ℕ → List ℕ → Done → Type 0
+Did s f at count k n room b d done.One = (count ≡ 1) × Put s f at count k n room b 1 d
+Did s f at count k n room b d (done.Parts c last) = (c ≡ count) × Put s f at count k n room b last d
+Did s f at count k n room b d done.None = (count ≤ k) × (d ≡ b)
 
 -- the k-th of the count cells of the record at `at`; after them the next record, at e
 unfoldable pub spot_in : ℕ → ℕ → ℕ → ℕ → Place
@@ -62,11 +64,11 @@ pub record Went (s : List ℕ) (m : ℕ) (v : Place) (n : ℕ) (b : List ℕ) (w
   pub to : k ≤ m
 
 -- a step over a record that has no cell here
-abbrev pub past_step : ℕ → Item Place Cell → Advance
-past_step n (gives c w) = step.End
-past_step n (skips w) = step.On w n
-past_step n ends = step.End
+abbrev pub past_step : ℕ → Item Place Cell → Option Reached
+past_step n (gives c w) = None
+past_step n (skips w) = Some (record { place = w; cells = n })
+past_step n ends = None
 
-abbrev pub Stepped : List ℕ → ℕ → Place → ℕ → List ℕ → List ℕ → Advance → Type 0
-Stepped s m v n b d (step.On w k) = Went s m v n b w k d × (remaining s w < remaining s v)
-Stepped s m v n b d step.End = (next_of s v ≡ listed.End) × (d ≡ b)
+abbrev pub Stepped : List ℕ → ℕ → Place → ℕ → List ℕ → List ℕ → Option Reached → Type 0
+Stepped s m v n b d (Some x) = Went s m v n b x.place x.cells d × (remaining s x.place < remaining s v)
+Stepped s m v n b d None = (next_of s v ≡ None) × (d ≡ b)

@@ -8,6 +8,9 @@ use native.Mathlib.Omega.{arith}
 use lib.Dec.{ltb, eqb}
 use lib.ListN.{length, get_or}
 use lib.Seq.{sets, length-sets}
+use Rattle.std.specs.Prelude.{Option, Some, None, Result, Ok, Err}
+use Rattle.refusal.specs.declared.Refusal as refusal
+use Rattle.refusal.specs.Refused.{refuse}
 use borrow.Author.Tests.{le-ltb, ltb-true, ltb-false, leb-false, lt-leb}
 use Rattle.steps.specs.Choice.{pick}
 use Rattle.steps.proofs.Choice.{never, pick_by}
@@ -18,8 +21,6 @@ use Rattle.record.proofs.Laws.{whole}
 use Rattle.truth_error.specs.Boolerr.{is_truth, is_error}
 use Rattle.number.specs.Float64.{bits_of}
 use Rattle.number.specs.Packing.{Means, pack_of}
-use Rattle.number.specs.declared.Packed.{Packed}
-use Rattle.number.specs.declared.Packed.TheVariants.{Word, Unpacked}
 use Rattle.number.proofs.Laws.{bits_of_lt, refused_exactly}
 use Rattle.value.specs.declared.Field.{Field}
 use Rattle.value.specs.declared.Field.TheVariants.{NoField, Float, RkWord, TextIndex, TruthError, StoredResult}
@@ -28,18 +29,13 @@ use Rattle.value.specs.Value.{width_of, value_of}
 use Rattle.cell.specs.declared.Cell.{Cell}
 use Rattle.new_value.specs.declared.NewValue.{NewValue}
 use Rattle.new_value.specs.declared.NewValue.TheVariants.{Number, Text, Truth, Error}
-use Rattle.new_value.specs.declared.Answer.TheVariants as changed
-use Rattle.new_value.specs.declared.Plan.{Plan}
-use Rattle.new_value.specs.declared.Plan.TheVariants as plan
 use Rattle.new_value.specs.Change.{Held, new_of, put_if, finite, float_plan, packed_plan, plan_of}
 use Rattle.record_after.proofs.Planned.{planned, unpacked}
 use Rattle.sheet_agreement.specs.Agreement.{Sheet}
 use Rattle.globals.specs.declared.Globals.{Globals}
 use Rattle.globals.specs.Sheets.{sheets_of}
-use Rattle.workbook.specs.declared.Checked.{Checked}
-use Rattle.workbook.specs.declared.Checked.TheVariants.{Right, Wrong}
-use Rattle.workbook.specs.declared.Answer.TheVariants.{Passed}
-use Rattle.workbook.specs.Check.{checked_of, answered, on_checked}
+use Rattle.workbook.specs.declared.Passed.{Passed}
+use Rattle.workbook.specs.Check.{Checked, Right, checked_of, answered, on_checked}
 use Rattle.reading.specs.Reading.{start_of, listed_of, CellReading, SheetReading, Reading, reading_of}
 use Rattle.correction.specs.Correction.{Correction, refuses, writes, cells_at, on_plan, on_cells, no_sheet, correction_of, answer_of, stream_after}
 use Rattle.correction.proofs.Laws.{sheet_lent, sheet_missing}
@@ -62,11 +58,11 @@ pub record Made (s : List ℕ) (lent sheets n row column : ℕ) (v : NewValue) (
   pub given : Granted s lent n row column v kind place number
 
 module _ {s : List ℕ} {lent sheets n row column : ℕ} {v : NewValue} {t : List ℕ} where
-  pub made : Corrects s lent sheets n row column v changed.Granted t → Made s lent sheets n row column v t
+  pub made : Corrects s lent sheets n row column v (Ok tt) t → Made s lent sheets n row column v t
   made h = by (correction_of s lent sheets n row column v) refl
     where
       by : (x : Correction) → correction_of s lent sheets n row column v ≡ x → Made s lent sheets n row column v t
-      by (refuses m o) i = let e : changed.Granted ≡ changed.Refused m o = h.answer ∙ ap answer_of i in never (cc)
+      by (refuses m o) i = let e : Ok tt ≡ refuse m o = h.answer ∙ ap answer_of i in never (cc)
       by (writes f p b) i = record { kind = f; place = p; number = b; is = i; after = h.after ∙ ap (stream_after s) i; given = granted s lent sheets n row column v f p b i }
 
   pub one : (m : Made s lent sheets n row column v t) {P : Cell → Type 0} → P m.given.cell → One s lent n row column P
@@ -100,15 +96,19 @@ others_stay s lent sheets n row column v t h =
       λ j out. ap (λ (x : List ℕ). get_or x j 0) (written m) ∙ stored_other (width_of c.kind) m.number s c.field j out,
     )
 
+-- what the check of such a stream answers
+abbrev told : List Sheet → ℕ → Result Passed refusal.Refusal
+told l unique = Ok (record { sheets = length l; strings = unique })
+
 pub passes : Passes
 passes s lent sheets n row column v t h =
     let m = made h in
     let given = m.given in
     let t' : List ℕ = stream_after s (writes m.kind m.place m.number) in
     let same = upheld s lent sheets n row column v m.kind m.place m.number h.held m.is in
-    let old : answered s (checked_of s lent) ≡ Passed (length (sheets_of s)) given.globals.unique = ap (answered s) given.passes in
-    let new : answered t' (checked_of t' lent) ≡ Passed (length (sheets_of s)) given.globals.unique = ap (answered t') (same ∙ given.passes) ∙ ap (λ (l : List Sheet). Passed (length l) given.globals.unique) (sym (sheets_stay s lent n row column v m.kind m.place m.number h.held given)) in
-    let new_after : answered t (checked_of t lent) ≡ Passed (length (sheets_of s)) given.globals.unique = ap (λ (x : List ℕ). answered x (checked_of x lent)) m.after ∙ new in
+    let old : answered s (checked_of s lent) ≡ told (sheets_of s) given.globals.unique = ap (answered s) given.passes in
+    let new : answered t' (checked_of t' lent) ≡ told (sheets_of s) given.globals.unique = ap (answered t') (same ∙ given.passes) ∙ ap (λ (l : List Sheet). told l given.globals.unique) (sym (sheets_stay s lent n row column v m.kind m.place m.number h.held given)) in
+    let new_after : answered t (checked_of t lent) ≡ told (sheets_of s) given.globals.unique = ap (λ (x : List ℕ). answered x (checked_of x lent)) m.after ∙ new in
     one m (ap passed new_after, new_after ∙ sym old)
 
 pub reads_new : ReadsNew
@@ -157,24 +157,25 @@ data Row (t : Bool) (U : Type 0) : ℕ → ℕ → Type 0 where
   by_kind : t ≡ false → Row t U 17 0
   by_value : t ≡ true → U → Row t U 18 0
 
-record Settles (t : Bool) (U : Type 0) (p : Plan) : Type 0 where
-  kind : t ≡ false → p ≡ plan.Refused 17 0
-  value : t ≡ true → U → p ≡ plan.Refused 18 0
-  met : (m o : ℕ) → p ≡ plan.Refused m o → Row t U m o
+record Settles (t : Bool) (U : Type 0) (p : Result ℕ refusal.Refusal) : Type 0 where
+  kind : t ≡ false → p ≡ refuse 17 0
+  value : t ≡ true → U → p ≡ refuse 18 0
+  met : (m o : ℕ) → p ≡ refuse m o → Row t U m o
 
-same_row : {t : Bool} {U : Type 0} {a b m o : ℕ} → plan.Refused a b ≡ plan.Refused m o → Row t U a b → Row t U m o
+same_row : {t : Bool} {U : Type 0} {a b m o : ℕ} → refuse {A = ℕ} a b ≡ refuse m o → Row t U a b → Row t U m o
 same_row {t} {U} {a} {b} {m} {o} e x =
-    let i : a ≡ m = cc in
-    let j : b ≡ o = cc in
+    let same : ◌≡◌ {A = refusal.Refusal} (record { number = a; offset = b }) (record { number = m; offset = o }) = cc in
+    let i : a ≡ m = ap (λ (r : refusal.Refusal). r.number) same in
+    let j : b ≡ o = ap (λ (r : refusal.Refusal). r.offset) same in
     subst (λ (k : ℕ). Row t U k o) i (subst (λ (k : ℕ). Row t U a k) j x)
 
-untaken : {U : Type 0} → Settles false U (plan.Refused 17 0)
+untaken : {U : Type 0} → Settles false U (refuse 17 0)
 untaken = record { kind = λ _. refl; value = λ e. never (cc); met = λ m o e. same_row e (by_kind refl) }
 
-taken_put : {U : Type 0} (b : ℕ) → (U → ⊥) → Settles true U (plan.Put b)
+taken_put : {U : Type 0} (b : ℕ) → (U → ⊥) → Settles true U (Ok b)
 taken_put b fit = record { kind = λ e. never (cc); value = λ _ u. absurd (fit u); met = λ m o e. never (cc) }
 
-taken_unfit : {U : Type 0} → U → Settles true U (plan.Refused 18 0)
+taken_unfit : {U : Type 0} → U → Settles true U (refuse 18 0)
 taken_unfit u = record { kind = λ e. never (cc); value = λ _ _. refl; met = λ m o e. same_row e (by_value refl u) }
 
 put_settles : {U : Type 0} (right : Bool) (b : ℕ) → (right ≡ false) ↔ U → Settles true U (put_if right b)
@@ -182,19 +183,19 @@ unfolding put_if pick
 put_settles true b h = taken_put b (λ u. let e = h.1 u in never (cc))
 put_settles false b h = taken_unfit (h.0 refl)
 
-packed_settles : {U : Type 0} (k : Packed) → (k ≡ Unpacked) ↔ U → Settles true U (packed_plan k)
-packed_settles (Word w) h = taken_put w (λ u. let e = h.1 u in never (cc))
-packed_settles Unpacked h = taken_unfit (h.0 refl)
+packed_settles : {U : Type 0} (k : Option ℕ) → (k ≡ None) ↔ U → Settles true U (packed_plan k)
+packed_settles (Some w) h = taken_put w (λ u. let e = h.1 u in never (cc))
+packed_settles None h = taken_unfit (h.0 refl)
 
 -- an infinity and a NaN have no word
-no_word : (b : ℕ) → finite b ≡ false → pack_of b ≡ Unpacked
+no_word : (b : ℕ) → finite b ≡ false → pack_of b ≡ None
 unfolding finite pack_of
-no_word b e = pick_by (λ (k : Packed). k ≡ Unpacked) (eqb (b / 2 ^ 52 % 2 ^ 11) 2047) (λ _. refl) (λ i. never (let j : not (eqb (b / 2 ^ 52 % 2 ^ 11) 2047) ≡ true = ap not i in cc))
+no_word b e = pick_by (λ (k : Option ℕ). k ≡ None) (eqb (b / 2 ^ 52 % 2 ^ 11) 2047) (λ _. refl) (λ i. never (let j : not (eqb (b / 2 ^ 52 % 2 ^ 11) 2047) ≡ true = ap not i in cc))
 
-packed_unfit : (b : ℕ) → b < 2 ^ 64 → (pack_of b ≡ Unpacked) ↔ ((finite b ≡ false) ⊎ (RkWord ≡ RkWord × ((w : ℕ) → Means w b → ⊥)))
+packed_unfit : (b : ℕ) → b < 2 ^ 64 → (pack_of b ≡ None) ↔ ((finite b ≡ false) ⊎ (RkWord ≡ RkWord × ((w : ℕ) → Means w b → ⊥)))
 packed_unfit b l = (λ e. inr (refl, (refused_exactly b l).0 e), from)
   where
-    from : (finite b ≡ false) ⊎ (RkWord ≡ RkWord × ((w : ℕ) → Means w b → ⊥)) → pack_of b ≡ Unpacked
+    from : (finite b ≡ false) ⊎ (RkWord ≡ RkWord × ((w : ℕ) → Means w b → ⊥)) → pack_of b ≡ None
     from (inl e) = no_word b e
     from (inr n) = (refused_exactly b l).1 n.1
 
@@ -247,9 +248,9 @@ module _ (s : List ℕ) (lent sheets n row column : ℕ) (v : NewValue) (held : 
   row_met c u m o i (by_kind e) = kind i e
   row_met c u m o i (by_value e x) = value i e x
 
-  plan_met : (c : Cell) (u m o : ℕ) → Only s lent n row column c u → (p : Plan) → plan_of c.kind v u ≡ p → on_plan c p ≡ refuses m o → Met m o
-  plan_met c u m o i (plan.Put b) e h = never (cc)
-  plan_met c u m o i (plan.Refused a b) e h = same_met h (row_met c u a b i ((settles c.kind v u held).met a b e))
+  plan_met : (c : Cell) (u m o : ℕ) → Only s lent n row column c u → (p : Result ℕ refusal.Refusal) → plan_of c.kind v u ≡ p → on_plan c p ≡ refuses m o → Met m o
+  plan_met c u m o i (Ok b) e h = never (cc)
+  plan_met c u m o i (Err r) e h = same_met h (row_met c u r.number r.offset i ((settles c.kind v u held).met r.number r.offset e))
 
   module _ (g : Globals) (right : checked_of s lent ≡ Right g) where
     cells_met : (m o : ℕ) (x : Sheet) → Nth (sheets_of s) n x → (l : List Cell) → cells_at row column (listed_of s x) ≡ l → on_cells v g.unique l ≡ refuses m o → Met m o
@@ -264,11 +265,11 @@ module _ (s : List ℕ) (lent sheets n row column : ℕ) (v : NewValue) (held : 
 
   checked_met : (m o : ℕ) (k : Checked) → checked_of s lent ≡ k
       → on_checked refuses (λ (g : Globals). nth (sheets_of s) n (λ (x : Sheet). on_cells v g.unique (cells_at row column (listed_of s x))) (refuses (no_sheet sheets n) 0)) k ≡ refuses m o → Met m o
-  checked_met m o (Right g) e h =
+  checked_met m o (Ok g) e h =
       nth_either (λ (x : Sheet). on_cells v g.unique (cells_at row column (listed_of s x))) (refuses (no_sheet sheets n) 0) (refuses m o) (Met m o) (sheets_of s) n
       (λ x i j. cells_met g e m o x i (cells_at row column (listed_of s x)) refl j)
       (λ i j. same_met j (sheet_met g e i)) h
-  checked_met m o (Wrong a b) e h = same_met h (checked e)
+  checked_met m o (Err r) e h = same_met h (checked e)
 
   -- what a correction comes to in a stream that passes
   on_right : (g : Globals) → checked_of s lent ≡ Right g → correction_of s lent sheets n row column v ≡ nth (sheets_of s) n (λ (x : Sheet). on_cells v g.unique (cells_at row column (listed_of s x))) (refuses (no_sheet sheets n) 0)
@@ -295,8 +296,12 @@ module _ (s : List ℕ) (lent sheets n row column : ℕ) (v : NewValue) (held : 
   met_refused m o (kind {c = c} {unique = u} i e) = on_only c u i ∙ ap (on_plan c) ((settles c.kind v u held).kind e)
   met_refused m o (value {c = c} {unique = u} i e x) = on_only c u i ∙ ap (on_plan c) ((settles c.kind v u held).value e x)
 
-refused_by : (x : Correction) (m o : ℕ) → answer_of x ≡ changed.Refused m o → x ≡ refuses m o
-refused_by (refuses a b) m o h = let i : a ≡ m = cc in let j : b ≡ o = cc in rw (i, j) refl
+refused_by : (x : Correction) (m o : ℕ) → answer_of x ≡ refuse m o → x ≡ refuses m o
+refused_by (refuses a b) m o h =
+    let same : ◌≡◌ {A = refusal.Refusal} (record { number = a; offset = b }) (record { number = m; offset = o }) = cc in
+    let i : a ≡ m = ap (λ (r : refusal.Refusal). r.number) same in
+    let j : b ≡ o = ap (λ (r : refusal.Refusal). r.offset) same in
+    rw (i, j) refl
 refused_by (writes f p b) m o h = never (cc)
 
 pub refused_as_said : RefusedExactly
@@ -309,9 +314,9 @@ refused_as_said s lent sheets n row column v r t h m o = (
 pub refused_keeps : RefusedKeeps
 refused_keeps s lent sheets n row column v m o t h = h.after ∙ ap (stream_after s) (refused_by (correction_of s lent sheets n row column v) m o (sym h.answer))
 
-refused_plan : (c : Cell) (p : Plan) → on_plan c p ≡ refuses 18 0 → p ≡ plan.Refused 18 0
-refused_plan c (plan.Put k) h = never (cc)
-refused_plan c (plan.Refused m o) h = let i : m ≡ 18 = cc in let j : o ≡ 0 = cc in rw (i, j) refl
+refused_plan : (c : Cell) (p : Result ℕ refusal.Refusal) → on_plan c p ≡ refuses 18 0 → p ≡ refuse 18 0
+refused_plan c (Ok k) h = never (cc)
+refused_plan c (Err r) h = let i : r.number ≡ 18 = cc in let j : r.offset ≡ 0 = cc in ap₂ (λ (a b : ℕ). refuse {A = ℕ} a b) i j
 
 pub packed_as_said : PackedExactly
 packed_as_said s lent sheets n row column c u x r t h i packed f =

@@ -11,15 +11,15 @@ use Rattle.value.specs.declared.CellValue.{CellValue}
 use Rattle.cell.specs.declared.Cell.{Cell}
 use Rattle.new_value.specs.declared.NewValue.{NewValue}
 use Rattle.new_value.specs.declared.NewValue.TheVariants.{Number}
-use Rattle.new_value.specs.declared.Answer.TheVariants as changed
+use Rattle.std.specs.Prelude.{Result, Ok, Err}
+use Rattle.refusal.specs.declared.Refusal as refusal
+use Rattle.refusal.specs.Refused.{refuse}
 use Rattle.new_value.specs.Change.{Held, new_of}
 use Rattle.sheet_agreement.specs.Agreement.{Sheet}
 use Rattle.globals.specs.declared.Globals.{Globals}
 use Rattle.globals.specs.Globals.{globals_of}
 use Rattle.globals.specs.Sheets.{sheets_of}
-use Rattle.workbook.specs.declared.Checked.{Checked}
-use Rattle.workbook.specs.declared.Checked.TheVariants.{Right, Wrong}
-use Rattle.workbook.specs.Check.{checked_of}
+use Rattle.workbook.specs.Check.{Checked, Right, checked_of}
 use Rattle.reading.specs.Reading.{CellReading, SheetReading, reading_of, sheet_reading}
 use Rattle.correction.specs.Correction.{Correction, correction_in, correction_of, stream_after}
 use Rattle.correction.specs.Correction as correction
@@ -35,16 +35,17 @@ use Rattle.pair.specs.declared.Whose.TheVariants.{Session, Template}
 use Rattle.pair.specs.declared.Of.{Of}
 use Rattle.pair.specs.declared.Of.TheVariants as of
 use Rattle.pair.specs.declared.PairChecked.{PairChecked}
-use Rattle.pair.specs.declared.PairChecked.TheVariants as checked
-use Rattle.pair.specs.declared.PairCorrected.TheVariants as corrected
-use Rattle.pair.specs.Pair.{on_session, on_template, pair_of, Passes, on_pair, sheet_from, PairCorrection, refuses, writes, asked, pair_correction_of, answer_of, session_after}
+use Rattle.pair.specs.declared.StreamRefusal.{StreamRefusal}
+use Rattle.pair.specs.declared.PairRefusal as pair
+use Rattle.pair.specs.Refused.{refuse_of}
+use Rattle.pair.specs.Pair.{on_session, on_template, passes, pair_of, Passes, on_pair, sheet_from, PairCorrection, refuses, writes, asked, pair_correction_of, answer_of, session_after}
 use Rattle.pair.proofs.Laws.{passes_both, passes_is}
 use Rattle.pair.proofs.Correcting.{asked_stream, pair_is}
 use Rattle.claims.specs.PairReading.{SheetOf, PairReading, from, overlaid, lent_by, joined, pair_reading_of, on_sheet, pair_replaced}
 use Rattle.claims.specs.PairDemand3.{Corrects, One, Granted, HoldsNew, OthersStay, passed, PairPasses, SheetsOverlaid, ReadsNew, of_cells, SpotsStay, TextsStay, PairRefusal, template, session, question, RefusedExactly, RefusedKeeps, PackedExactly}
 
 -- ---- a correction of the pair is one of the session
-answer_is : (x : Correction) → corrected.Granted ≡ answer_of (asked x) → changed.Granted ≡ correction.answer_of x
+answer_is : (x : Correction) → Ok tt ≡ answer_of (asked x) → Ok tt ≡ correction.answer_of x
 answer_is (correction.refuses m o) e = never cc
 answer_is (correction.writes f p b) e = refl
 
@@ -63,16 +64,18 @@ record Given (t s : List ℕ) (n row column : ℕ) (v : NewValue) (s' : List ℕ
   g : Globals
   h : Globals
   both : Passes t s g h
-  one : claims.Corrects s g.unique (length (sheets_of t)) n row column v changed.Granted s'
+  one : claims.Corrects s g.unique (length (sheets_of t)) n row column v (Ok tt) s'
 
 module _ {t s : List ℕ} {n row column : ℕ} {v : NewValue} {s' : List ℕ} where
-  given : Corrects t s n row column v corrected.Granted s' → Given t s n row column v s'
+  given : Corrects t s n row column v (Ok tt) s' → Given t s n row column v s'
   unfolding pair_correction_of
   given c = go (pair_of t s) refl c.answer
     where
-      go : (x : PairChecked) → pair_of t s ≡ x → corrected.Granted ≡ answer_of (on_pair refuses (by t s n row column v) x) → Given t s n row column v s'
-      go (checked.Refused w m o) i e = never cc
-      go (checked.Passed g h) i e =
+      go : (x : Result PairChecked StreamRefusal) → pair_of t s ≡ x → Ok tt ≡ answer_of (on_pair refuses (by t s n row column v) x) → Given t s n row column v s'
+      go (Err r) i e = never cc
+      go (Ok x) i e =
+          let g = x.template in
+          let h = x.session in
           let p = passes_both t s g h i in
           let q = pair_is t s n row column v g h p in
           let x = in_session t s n row column v g in
@@ -94,7 +97,7 @@ pair_passes t s n row column v s' c =
     let m = base.made q.one in
     let same : checked_of s' q.g.unique ≡ checked_of s q.g.unique =
     ap (λ (x : List ℕ). checked_of x q.g.unique) m.after ∙ upheld s q.g.unique (length (sheets_of t)) n row column v m.kind m.place m.number c.held m.is in
-    let new : pair_of t s' ≡ checked.Passed q.g q.h = passes_is t s' q.g q.h (record { template = q.both.template; session = same ∙ q.both.session }) in
+    let new : pair_of t s' ≡ passes q.g q.h = passes_is t s' q.g q.h (record { template = q.both.template; session = same ∙ q.both.session }) in
     wrap q (base.one m (ap passed new, new ∙ sym (passes_is t s q.g q.h q.both)))
 
 -- ---- the reading
@@ -156,7 +159,7 @@ nth_below : {A : Type 0} {l : List A} {k : ℕ} {x : A} → Nth l k x → k < le
 nth_below first = omega arith
 nth_below (next i) = let j = nth_below i in omega arith
 
-module _ (t s : List ℕ) (n row column : ℕ) (v : NewValue) (s' : List ℕ) (c : Corrects t s n row column v corrected.Granted s') where
+module _ (t s : List ℕ) (n row column : ℕ) (v : NewValue) (s' : List ℕ) (c : Corrects t s n row column v (Ok tt) s') where
   abbrev q : Given t s n row column v s'
   q = given c
 
@@ -197,8 +200,11 @@ pub texts_stay : TextsStay
 texts_stay = all_stay text_of (λ _ _. refl)
 
 -- ---- refused exactly when the table says
-refused_by : (x : PairCorrection) (w : Of) (m o : ℕ) → answer_of x ≡ corrected.Refused w m o → x ≡ refuses w m o
-refused_by (refuses w' a b) w m o h = let i : w' ≡ w = cc in let j : a ≡ m = cc in let k : b ≡ o = cc in λ y. refuses (i y) (j y) (k y)
+refused_by : (x : PairCorrection) (w : Of) (m o : ℕ) → answer_of x ≡ refuse_of w m o → x ≡ refuses w m o
+refused_by (refuses w' a b) w m o h =
+    let same : ◌≡◌ {A = pair.PairRefusal} (record { of = w'; number = a; offset = b }) (record { of = w; number = m; offset = o }) = cc in
+    let again : pair.PairRefusal → PairCorrection = λ r. refuses r.of r.number r.offset in
+    ap again same
 refused_by (writes f p b) w m o h = never cc
 
 module _ (t s : List ℕ) (n row column : ℕ) (v : NewValue) (held : Held v) where
@@ -222,20 +228,23 @@ module _ (t s : List ℕ) (n row column : ℕ) (v : NewValue) (held : Held v) wh
   at_pair g h p = ap (on_pair refuses (by t s n row column v)) (passes_is t s g h p)
 
   session_met : (g : Globals) → checked_of t 0 ≡ Right g → (x : Checked) → checked_of s g.unique ≡ x → (w : Of) (m o : ℕ) → on_pair refuses (by t s n row column v) (on_session g x) ≡ refuses w m o → Met w m o
-  session_met g i (Right h) j w m o e =
+  session_met g i (Ok h) j w m o e =
       let p : Passes t s g h = record { template = i; session = j } in
       asked_met g h p (in_session t s n row column v g) refl w m o (sym (pair_is t s n row column v g h p) ∙ at_pair g h p ∙ e)
-  session_met g i (Wrong a b) j w m o e = same_met e (session i j)
+  session_met g i (Err r) j w m o e = same_met e (session i j)
 
   template_met : (x : Checked) → checked_of t 0 ≡ x → (w : Of) (m o : ℕ) → on_pair refuses (by t s n row column v) (on_template s x) ≡ refuses w m o → Met w m o
-  template_met (Right g) i w m o e = session_met g i (checked_of s g.unique) refl w m o e
-  template_met (Wrong a b) i w m o e = same_met e (template i)
+  template_met (Ok g) i w m o e = session_met g i (checked_of s g.unique) refl w m o e
+  template_met (Err r) i w m o e = same_met e (template i)
 
-  refused_answer : (x : Correction) (m o : ℕ) → correction.answer_of x ≡ changed.Refused m o → answer_of (asked x) ≡ corrected.Refused of.Question m o
-  refused_answer (correction.refuses a b) m o e = let j : a ≡ m = cc in let k : b ≡ o = cc in λ y. corrected.Refused of.Question (j y) (k y)
+  by_refusal : (x y : refusal.Refusal) → x ≡ y → refuse_of {A = Unit {0}} of.Question x.number x.offset ≡ refuse_of of.Question y.number y.offset
+  by_refusal x y e = ap (λ (z : refusal.Refusal). refuse_of of.Question z.number z.offset) e
+
+  refused_answer : (x : Correction) (m o : ℕ) → correction.answer_of x ≡ refuse m o → answer_of (asked x) ≡ refuse_of of.Question m o
+  refused_answer (correction.refuses a b) m o e = by_refusal (record { number = a; offset = b }) (record { number = m; offset = o }) cc
   refused_answer (correction.writes f p b) m o e = never cc
 
-  met_refused : (w : Of) (m o : ℕ) → Met w m o → answer_of (pair_correction_of t s n row column v) ≡ corrected.Refused w m o
+  met_refused : (w : Of) (m o : ℕ) → Met w m o → answer_of (pair_correction_of t s n row column v) ≡ refuse_of w m o
   unfolding pair_correction_of pair_of
   met_refused w m o (template i) = ap (λ (x : Checked). answer_of (on_pair refuses (by t s n row column v) (on_template s x))) i
   met_refused w m o (session {g = g} i j) =
@@ -254,8 +263,11 @@ refused_as_said t s n row column v r s' c w m o = (
 pub refused_keeps : RefusedKeeps
 refused_keeps t s n row column v w m o s' c = c.after ∙ ap (session_after s) (refused_by (pair_correction_of t s n row column v) w m o (sym c.answer))
 
-told_18 : (x : Correction) → answer_of (asked x) ≡ corrected.Refused of.Question 18 0 → correction.answer_of x ≡ changed.Refused 18 0
-told_18 (correction.refuses a b) e = let j : a ≡ 18 = cc in let k : b ≡ 0 = cc in λ y. changed.Refused (j y) (k y)
+told_18 : (x : Correction) → answer_of (asked x) ≡ refuse_of of.Question 18 0 → correction.answer_of x ≡ refuse 18 0
+told_18 (correction.refuses a b) e =
+    let same : ◌≡◌ {A = pair.PairRefusal} (record { of = of.Question; number = a; offset = b }) (record { of = of.Question; number = 18; offset = 0 }) = cc in
+    let told : pair.PairRefusal → Result (Unit {0}) refusal.Refusal = λ r. refuse r.number r.offset in
+    ap told same
 told_18 (correction.writes f p b) e = never cc
 
 pub packed_as_said : PackedExactly

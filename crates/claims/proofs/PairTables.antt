@@ -7,23 +7,26 @@ use lib.ListN.{length}
 use Rattle.steps.specs.Choice.{pick}
 use Rattle.steps.specs.Items.{nth}
 use Rattle.steps.proofs.Choice.{never, pick_false}
-use Rattle.strings.specs.declared.Fetched.TheVariants.{Refused}
+use Rattle.std.specs.Prelude.{Result, Ok}
+use Rattle.refusal.specs.Refused.{refuse}
 use Rattle.strings.specs.Table.{fetched_of}
 use Rattle.globals.specs.declared.Globals.{Globals}
-use Rattle.workbook.specs.declared.Checked.TheVariants.{Right}
-use Rattle.workbook.specs.Check.{checked_of, on_checked}
+use Rattle.workbook.specs.Check.{Right, checked_of, on_checked}
 use Rattle.fetch.specs.Fetch.{answer_in, buffer_in}
 use Rattle.fetch.proofs.Laws.{strings_none}
-use Rattle.string_places.specs.declared.Filled.TheVariants as filled
 use Rattle.string_places.specs.Places.{places_at, filled_of, table_of, fill_of, table_after, through_of, buffer_through}
 use Rattle.string_places.proofs.Claims.{given, through_filled, buffer_filled}
 use Rattle.pair.specs.declared.Of.TheVariants as of
-use Rattle.pair_texts.specs.declared.PairFilled.TheVariants.{Strings}
-use Rattle.pair_texts.specs.declared.PairFilled.TheVariants as pair_filled
+use Rattle.pair_texts.specs.declared.PairFilled.{PairFilled}
+use Rattle.pair.specs.declared.PairRefusal.{PairRefusal}
+use Rattle.pair.specs.Refused.{refuse_of}
 use Rattle.pair.specs.Pair.{Passes, on_pair}
 use Rattle.pair.proofs.Laws.{passes_is}
 use Rattle.pair_texts.specs.Tables.{too_short, either_short, both_filled, first_table, second_table, pair_fill_of, template_table_after, session_table_after}
 use Rattle.claims.specs.PairTables.{AsPlain, PairAsPlain, NoTable}
+
+abbrev filled : ℕ → ℕ → Result PairFilled PairRefusal
+filled k m = Ok (record { template = k; session = m })
 
 or_left : (x y : Bool) → (x || y) ≡ false → x ≡ false
 or_left true y h = h
@@ -35,9 +38,9 @@ or_right false y h = h
 
 -- a table that is long enough is filled
 module _ (x : List ℕ) (u : ℕ) (g : Globals) (passes : checked_of x u ≡ Right g) (a : List ℕ) (room : too_short a (places_at x g.table) ≡ false) where
-  fills : fill_of x u a ≡ filled.Strings (length (places_at x g.table))
+  fills : fill_of x u a ≡ Ok (length (places_at x g.table))
   unfolding fill_of filled_of
-  fills = ap (on_checked filled.Refused (λ (y : Globals). filled_of (length a) (places_at x y.table))) passes ∙ sym (pick_false _ _ _ _ room refl)
+  fills = ap (on_checked refuse (λ (y : Globals). filled_of (length a) (places_at x y.table))) passes ∙ sym (pick_false _ _ _ _ room refl)
 
   after : table_after x u a ≡ table_of a (places_at x g.table)
   unfolding table_after
@@ -55,16 +58,16 @@ module _ (x : List ℕ) (u : ℕ) (g : Globals) (passes : checked_of x u ≡ Rig
       right_one : (y : Globals) → checked_of x u ≡ Right y → y ≡ g
       right_one y z = cc
 
-module _ (t s a b : List ℕ) (k m : ℕ) (g h : Globals) (both : Passes t s g h) (is : pair_fill_of t s a b ≡ Strings k m) where
-  filled_both : both_filled (places_at t g.table) (places_at s h.table) a b ≡ Strings k m
+module _ (t s a b : List ℕ) (k m : ℕ) (g h : Globals) (both : Passes t s g h) (is : pair_fill_of t s a b ≡ filled k m) where
+  filled_both : both_filled (places_at t g.table) (places_at s h.table) a b ≡ filled k m
   unfolding pair_fill_of
-  filled_both = sym (ap (on_pair pair_filled.Refused (λ g h. both_filled (places_at t g.table) (places_at s h.table) a b)) (passes_is t s g h both)) ∙ is
+  filled_both = sym (ap (on_pair refuse_of (λ g h. both_filled (places_at t g.table) (places_at s h.table) a b)) (passes_is t s g h both)) ∙ is
 
   long : either_short (places_at t g.table) (places_at s h.table) a b ≡ false
   unfolding both_filled pick
   long = by (either_short (places_at t g.table) (places_at s h.table) a b) filled_both
     where
-      by : (x : Bool) → pick x (pair_filled.Refused of.Question 12 0) (Strings (length (places_at t g.table)) (length (places_at s h.table))) ≡ Strings k m → x ≡ false
+      by : (x : Bool) → pick x (refuse_of of.Question 12 0) (filled (length (places_at t g.table)) (length (places_at s h.table))) ≡ filled k m → x ≡ false
       by true e = never cc
       by false e = refl
 
@@ -88,4 +91,4 @@ pair_as_plain t s a b k m g h both is = (template_plain t s a b k m g h both is,
 pub no_table : NoTable
 unfolding nth
 no_table t s a b k m g h both is none i c =
-    (session_plain t s a b k m g h both is i c).0 ∙ ap (λ (x : List (List ℕ)). nth x i (fetched_of (length c)) (Refused 11 0)) (strings_none s h.table none)
+    (session_plain t s a b k m g h both is i c).0 ∙ ap (λ (x : List (List ℕ)). nth x i (fetched_of (length c)) (refuse 11 0)) (strings_none s h.table none)

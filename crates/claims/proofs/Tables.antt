@@ -12,15 +12,15 @@ use Rattle.segments.specs.declared.Cursor.{Cursor}
 use Rattle.segments.specs.Segments.{Got, got, list_of}
 use Rattle.segments.proofs.Local.{continues_kept}
 use Rattle.steps.specs.Items.{nth}
-use Rattle.strings.specs.declared.Fetched.TheVariants as fetched
+use Rattle.std.specs.Prelude.{Ok}
+use Rattle.refusal.specs.Refused.{refuse}
 use Rattle.strings.specs.Table.{table_of, answer_of, places_of, fetched_of, buffer_of}
 use Rattle.strings.proofs.Local.{table_same}
 use Rattle.value.specs.declared.Field.{Field}
 use Rattle.new_value.specs.declared.NewValue.{NewValue}
 use Rattle.new_value.specs.Change.{Held}
 use Rattle.globals.specs.declared.Globals.{Globals}
-use Rattle.workbook.specs.declared.Checked.TheVariants.{Right}
-use Rattle.workbook.specs.Check.{checked_of, on_checked}
+use Rattle.workbook.specs.Check.{Right, checked_of, on_checked}
 use Rattle.reading.specs.Reading.{strings_at}
 use Rattle.correction.specs.Correction.{correction_of, writes, stream_after}
 use Rattle.fetch.specs.Fetch.{answer_in, buffer_in}
@@ -33,7 +33,6 @@ use Rattle.passes_after.proofs.Upheld.{upheld}
 use Rattle.reads_after.proofs.Fields.{inside, same_before}
 use Rattle.reads_after.proofs.Found.{reach_found, corrected}
 use Rattle.reads_after.proofs.Strings.{Table, Tabled, globals_tabled, strings_kept}
-use Rattle.string_places.specs.declared.Filled.TheVariants.{Strings, Refused}
 use Rattle.string_places.specs.Places.{places_at, filled_of, fill_of, table_after, through_of, buffer_through}
 use Rattle.string_places.specs.Places as places
 use Rattle.string_places.proofs.Filling.{places_none, places_some}
@@ -47,7 +46,7 @@ module _ (s s' : List ℕ) (len : length s ≡ length s') (to : ℕ) (same : Sam
   table_kept p later t =
       let w = whole s p 0x00FC t.size t.end t.header in
       let l = t.ends in
-      let m = reach_ahead s (table_reach s p t.end (length t.places) t.last.end (ap answer_of t.is)) in
+      let m = reach_ahead s (table_reach s p t.end (record { strings = length t.places; end = t.last.end }) (ap answer_of t.is)) in
       let size : u16_at s (p + 2) ≡ u16_at s' (p + 2) = num_same s s' 2 (p + 2) (λ k i j. same k (omega arith) (omega arith)) in
       let end : p + 4 + u16_at s (p + 2) ≡ t.end = omega arith in
       let is : table_of s p (p + 4 + u16_at s (p + 2)) ≡ got t.places t.last = ap (table_of s p) end ∙ t.is in
@@ -105,14 +104,14 @@ module _ (s : List ℕ) (lent sheets n row column : ℕ) (v : NewValue) (f : Fie
   module _ (t : List ℕ) where
     fill_same : fill_of s' lent t ≡ fill_of s lent t
     unfolding fill_of
-    fill_same = both_passed Refused (λ a x. filled_of (length t) (places_at a x.table)) (ap (filled_of (length t)) places_same)
+    fill_same = both_passed refuse (λ a x. filled_of (length t) (places_at a x.table)) (ap (filled_of (length t)) places_same)
 
     after_same : table_after s' lent t ≡ table_after s lent t
     unfolding table_after
     after_same = both_passed (λ _ _. t) (λ a x. places.table_of t (places_at a x.table)) (ap (places.table_of t) places_same)
 
-    module _ (k : ℕ) (e : fill_of s lent t ≡ Strings k) (i : ℕ) (c : List ℕ) where
-      e' : fill_of s' lent t ≡ Strings k
+    module _ (k : ℕ) (e : fill_of s lent t ≡ Ok k) (i : ℕ) (c : List ℕ) where
+      e' : fill_of s' lent t ≡ Ok k
       e' = fill_same ∙ e
 
       right_one : (x : Globals) (a : List ℕ) → checked_of a lent ≡ Right x → checked_of a lent ≡ Right g → x ≡ g
@@ -131,7 +130,7 @@ module _ (s : List ℕ) (lent sheets n row column : ℕ) (v : NewValue) (f : Fie
       through_same : through_of s' (table_after s lent t) i c ≡ through_of s (table_after s lent t) i c
       through_same =
           by_both (λ a x. through_of a x i c) (λ a. answer_in a i c) (through_filled s' t lent k e' i c) (through_filled s t lent k e i c)
-          (ap (λ (x : List (List ℕ)). nth x i (fetched_of (length c)) (fetched.Refused 11 0)) strings_same)
+          (ap (λ (x : List (List ℕ)). nth x i (fetched_of (length c)) (refuse 11 0)) strings_same)
 
       buffer_same : buffer_through s' (table_after s lent t) i c ≡ buffer_through s (table_after s lent t) i c
       buffer_same =

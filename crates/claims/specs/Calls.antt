@@ -1,12 +1,12 @@
 -- The calls of session owners over one template: what each answers and what it leaves in the memory that its owner lends. Each answer and each memory is
 -- what the contract of the function says.
-use Rattle.std.specs.Prelude.{ℕ, List, [], ◌∷◌, Bool, length, eqb}
+use Rattle.std.specs.Prelude.{ℕ, List, [], ◌∷◌, Bool, length, eqb, Option, Result}
 use Rattle.steps.specs.Choice.{pick}
 use Rattle.new_value.specs.declared.NewValue.{NewValue}
 use Rattle.reading.specs.declared.Place.{Place}
 use Rattle.listing.specs.declared.Listed.{Listed}
 use Rattle.listing.specs.Listing.{next_of}
-use Rattle.strings.specs.declared.Fetched.{Fetched}
+use Rattle.refusal.specs.declared.Refusal.{Refusal}
 use Rattle.string_places.specs.Places.{through_of, buffer_through}
 use Rattle.pair_texts.specs.declared.PairFilled.{PairFilled}
 use Rattle.pair_texts.specs.Tables.{pair_fill_of, template_table_after, session_table_after}
@@ -16,11 +16,12 @@ use Rattle.pair.specs.declared.PairChecked.{PairChecked}
 use Rattle.pair.specs.declared.PairSheet.{PairSheet}
 use Rattle.pair.specs.declared.PairCells.{PairCells}
 use Rattle.pair_texts.specs.declared.PairFetched.{PairFetched}
-use Rattle.pair.specs.declared.PairCorrected.{PairCorrected}
+use Rattle.pair.specs.declared.StreamRefusal.{StreamRefusal}
+use Rattle.pair.specs.declared.PairRefusal.{PairRefusal}
 use Rattle.pair.specs.Pair.{pair_of, pair_sheet_of, pair_name_of, pair_cells_of, pair_correction_of, answer_of, session_after}
 use Rattle.pair_texts.specs.Texts.{pair_fetch_of, pair_buffer_of, pair_text_of, pair_text_buffer}
 use Rattle.journal.specs.Entries.{count_in}
-use Rattle.pair_journal.specs.declared.PairReplayed.{PairReplayed}
+use Rattle.replay_entry.specs.declared.Replayed.{Replayed}
 use Rattle.pair_journal.specs.Journals.{pair_start_of, start_answer, journal_started, pair_journalled_of, pair_journal_after, pair_replay_of, session_replayed, pair_replay_answer}
 
 -- what an owner lends: a session, a buffer of units, a table of string places for the template and one for the session, and a journal
@@ -47,16 +48,16 @@ pub data Call : Type 0 where
   replay : Bool → Call
 
 pub data Answer : Type 0 where
-  checked : PairChecked → Answer
-  described : PairSheet → Answer
+  checked : Result PairChecked StreamRefusal → Answer
+  described : Result PairSheet PairRefusal → Answer
   named : List ℕ → Answer
-  started : PairCells → Answer
-  listed : Listed → Answer
-  fetched : PairFetched → Answer
-  corrected : PairCorrected → Answer
-  filled : PairFilled → Answer
-  found : Fetched → Answer
-  replayed : PairReplayed → Answer
+  started : Result PairCells PairRefusal → Answer
+  listed : Option Listed → Answer
+  fetched : Result PairFetched PairRefusal → Answer
+  corrected : Result (Unit {0}) PairRefusal → Answer
+  filled : Result PairFilled PairRefusal → Answer
+  found : Result ℕ Refusal → Answer
+  replayed : Result Replayed PairRefusal → Answer
 
 -- t is the template
 abbrev pub stream_of : List ℕ → Memory → Whose → List ℕ

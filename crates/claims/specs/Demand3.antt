@@ -1,6 +1,8 @@
 -- Demand 3, a claim for each of its sentences. They speak of what `correction::correct` promises of a call; `lent` and `sheets` are a template's two numbers, 0
 -- for a stream by itself.
-use Rattle.std.specs.Prelude.{ℕ, ◌+◌, ◌≤◌, ◌<◌, ◌≡◌, List, [], ◌∷◌, map, ◌⊎◌, ◌↔◌, Bool, true, false, Float as F64, length, get_or}
+use Rattle.std.specs.Prelude.{ℕ, ◌+◌, ◌≤◌, ◌<◌, ◌≡◌, List, [], ◌∷◌, map, ◌⊎◌, ◌↔◌, Bool, true, false, Float as F64, length, get_or, Result, Ok, Err}
+use Rattle.refusal.specs.declared.Refusal as refusal
+use Rattle.refusal.specs.Refused.{refuse}
 use Rattle.byte_numbers.specs.Bytes.{num_at}
 use Rattle.truth_error.specs.Boolerr.{is_error}
 use Rattle.number.specs.Float64.{bits_of}
@@ -11,23 +13,23 @@ use Rattle.value.specs.Value.{width_of, value_of}
 use Rattle.cell.specs.declared.Cell.{Cell}
 use Rattle.new_value.specs.declared.NewValue.{NewValue}
 use Rattle.new_value.specs.declared.NewValue.TheVariants.{Number, Text, Truth, Error}
-use Rattle.new_value.specs.declared.Answer as change
-use Rattle.new_value.specs.declared.Answer.TheVariants as changed
 use Rattle.new_value.specs.Change.{Held, new_of, finite}
 use Rattle.sheet_agreement.specs.Agreement.{Sheet}
 use Rattle.globals.specs.declared.Globals.{Globals}
 use Rattle.globals.specs.Sheets.{sheets_of}
-use Rattle.workbook.specs.declared.Checked.TheVariants.{Right, Wrong}
-use Rattle.workbook.specs.declared.Answer.{Answer}
-use Rattle.workbook.specs.declared.Answer.TheVariants.{Passed, Refused}
-use Rattle.workbook.specs.Check.{checked_of, answered}
+use Rattle.workbook.specs.declared.Passed.{Passed}
+use Rattle.workbook.specs.Check.{Right, Wrong, checked_of, answered}
 use Rattle.reading.specs.Reading.{CellReading, SheetReading, listed_of, reading_of}
 use Rattle.correction.specs.Correction.{cells_at, correction_of, answer_of, stream_after}
 use Rattle.record_chain.specs.Chain.{Nth}
 use Rattle.reads_after.specs.Replaced.{replaced, values_at}
 
+-- what a correction answers: granted or refused
+abbrev pub Corrected : Type 0
+Corrected = Result (Unit {0}) refusal.Refusal
+
 -- what `correct` ensures, clause by clause: s is the stream before the call, r the answer, t the stream after it
-pub record Corrects (s : List ℕ) (lent sheets n row column : ℕ) (v : NewValue) (r : change.Answer) (t : List ℕ) : Type 0 where
+pub record Corrects (s : List ℕ) (lent sheets n row column : ℕ) (v : NewValue) (r : Corrected) (t : List ℕ) : Type 0 where
   pub answer : r ≡ answer_of (correction_of s lent sheets n row column v)
   pub after : t ≡ stream_after s (correction_of s lent sheets n row column v)
   pub held : Held v
@@ -51,7 +53,7 @@ pub record One (s : List ℕ) (lent n row column : ℕ) (P : Cell → Type 0) : 
 -- ---- what holds of each granted correction: c is the one cell of the address, t the stream after it
 abbrev pub Granted : (List ℕ → ℕ → ℕ → ℕ → ℕ → NewValue → Cell → List ℕ → Type 0) → Type 0
 Granted P =
-    (s : List ℕ) (lent sheets n row column : ℕ) (v : NewValue) (t : List ℕ) → Corrects s lent sheets n row column v changed.Granted t
+    (s : List ℕ) (lent sheets n row column : ℕ) (v : NewValue) (t : List ℕ) → Corrects s lent sheets n row column v (Ok tt) t
     → One s lent n row column (λ c. P s lent n row column v c t)
 
 -- that cell's value field holds the new value
@@ -63,9 +65,9 @@ abbrev pub OthersStay : Type 0
 OthersStay =
     Granted (λ s lent n row column v c t. (length t ≡ length s) × ((j : ℕ) → (j < c.field) ⊎ (c.field + width_of c.kind ≤ j) → get_or t j 0 ≡ get_or s j 0))
 
-abbrev pub passed : Answer → Bool
-passed (Passed sheets strings) = true
-passed (Refused number offset) = false
+abbrev pub passed : Result Passed refusal.Refusal → Bool
+passed (Ok x) = true
+passed (Err e) = false
 
 -- the new stream passes the check, with as many sheets and strings
 abbrev pub Passes : Type 0
@@ -161,16 +163,16 @@ pub data Refusal (s : List ℕ) (lent sheets n row column : ℕ) (v : NewValue) 
 
 abbrev pub RefusedExactly : Type 0
 RefusedExactly =
-    (s : List ℕ) (lent sheets n row column : ℕ) (v : NewValue) (r : change.Answer) (t : List ℕ) → Corrects s lent sheets n row column v r t
-    → (m o : ℕ) → (r ≡ changed.Refused m o) ↔ Refusal s lent sheets n row column v m o
+    (s : List ℕ) (lent sheets n row column : ℕ) (v : NewValue) (r : Corrected) (t : List ℕ) → Corrects s lent sheets n row column v r t
+    → (m o : ℕ) → (r ≡ refuse m o) ↔ Refusal s lent sheets n row column v m o
 
 -- where it is refused, no byte changes
 abbrev pub RefusedKeeps : Type 0
-RefusedKeeps = (s : List ℕ) (lent sheets n row column : ℕ) (v : NewValue) (m o : ℕ) (t : List ℕ) → Corrects s lent sheets n row column v (changed.Refused m o) t → t ≡ s
+RefusedKeeps = (s : List ℕ) (lent sheets n row column : ℕ) (v : NewValue) (m o : ℕ) (t : List ℕ) → Corrects s lent sheets n row column v (refuse m o) t → t ≡ s
 
 -- in a stream that passes, where a packed cell's address occurs once in its sheet, a finite number is refused exactly when no undivided packed word
 -- means it
 abbrev pub PackedExactly : Type 0
 PackedExactly =
-    (s : List ℕ) (lent sheets n row column : ℕ) (c : Cell) (unique : ℕ) (x : F64) (r : change.Answer) (t : List ℕ) → Corrects s lent sheets n row column (Number x) r t
-    → Only s lent n row column c unique → c.kind ≡ RkWord → finite (bits_of x) ≡ true → (r ≡ changed.Refused 18 0) ↔ ((w : ℕ) → Means w (bits_of x) → ⊥)
+    (s : List ℕ) (lent sheets n row column : ℕ) (c : Cell) (unique : ℕ) (x : F64) (r : Corrected) (t : List ℕ) → Corrects s lent sheets n row column (Number x) r t
+    → Only s lent n row column c unique → c.kind ≡ RkWord → finite (bits_of x) ≡ true → (r ≡ refuse 18 0) ↔ ((w : ℕ) → Means w (bits_of x) → ⊥)

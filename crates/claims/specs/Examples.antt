@@ -1,19 +1,15 @@
 -- The worked examples of document 01 that are marked to be proved, and some of the change requests: one table of questions with their answers.
-use Rattle.std.specs.Prelude.{ℕ, ◌+◌, ◌≡◌, List, [], ◌∷◌, ◌++◌, map}
+use Rattle.std.specs.Prelude.{ℕ, ◌+◌, ◌≡◌, List, [], ◌∷◌, ◌++◌, map, Float, Option, Some, None, Result, Ok, Err}
 use Rattle.std.specs.Float.{binary64}
 use Rattle.std.specs.Float.Ieee.{of_bits}
+use Rattle.refusal.specs.declared.Refusal.{Refusal}
 use Rattle.byte_numbers.specs.Bytes.{u16_at}
 use Rattle.number.specs.Float64.{bits_of}
-use Rattle.number.specs.declared.Rk.{Rk}
-use Rattle.number.specs.declared.Rk.TheVariants as rk
 use Rattle.number.specs.Rk.{rk_of}
 use Rattle.value.specs.declared.Field.TheVariants.{RkWord}
 use Rattle.new_value.specs.declared.NewValue.TheVariants.{Number}
-use Rattle.new_value.specs.declared.Plan.{Plan}
-use Rattle.new_value.specs.declared.Plan.TheVariants as plan
 use Rattle.new_value.specs.Change.{plan_of}
-use Rattle.tokens.specs.declared.Judgement.{Judgement}
-use Rattle.tokens.specs.declared.Judgement.TheVariants.{Accepted, Refused}
+use Rattle.tokens.specs.Judge.{Judgement}
 use Rattle.formula.specs.Judge.{judge_of}
 use Rattle.strings.specs.Table.{strings_of}
 
@@ -33,18 +29,18 @@ pub data Answer : Type 0 where
   refused : ℕ → ℕ → Answer
 
 -- a number is told by its 64 bits
-abbrev pub meant : Rk → Answer
-meant (rk.Number x) = number (bits_of x)
-meant rk.Nothing = nothing
+abbrev pub meant : Option Float → Answer
+meant (Some x) = number (bits_of x)
+meant None = nothing
 
 -- the word that a packed cell's field takes, or the refusal of the correction
-abbrev pub planned : Plan → Answer
-planned (plan.Put n) = word n
-planned (plan.Refused n o) = refused n o
+abbrev pub planned : Result ℕ Refusal → Answer
+planned (Ok n) = word n
+planned (Err e) = refused e.number e.offset
 
 abbrev pub judged : Judgement → Answer
-judged Accepted = accepted
-judged (Refused n o) = refused n o
+judged (Ok t) = accepted
+judged (Err e) = refused e.number e.offset
 
 abbrev pub answer_of : Question → Answer
 answer_of (rk_word w) = meant (rk_of w)

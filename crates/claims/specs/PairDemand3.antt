@@ -1,6 +1,6 @@
 -- Demand 3 over a template and a session, a claim for each of its sentences. They speak of what `pair::pair_correct` promises of a call: t is the template, s
 -- the session before it, r the answer, s' the session after it. The template's bytes aren't lent to be written.
-use Rattle.std.specs.Prelude.{ℕ, ◌+◌, ◌≤◌, ◌<◌, ◌≡◌, List, map, ◌⊎◌, ◌↔◌, Bool, true, false, length, get_or}
+use Rattle.std.specs.Prelude.{ℕ, ◌+◌, ◌≤◌, ◌<◌, ◌≡◌, List, map, ◌⊎◌, ◌↔◌, Bool, true, false, length, get_or, Result, Ok, Err}
 use Rattle.std.specs.Float.Ieee as Ieee
 use Rattle.steps.specs.Items.{nth}
 use Rattle.byte_numbers.specs.Bytes.{num_at}
@@ -14,17 +14,16 @@ use Rattle.new_value.specs.declared.NewValue.TheVariants.{Number}
 use Rattle.new_value.specs.Change.{Held, new_of, finite}
 use Rattle.globals.specs.declared.Globals.{Globals}
 use Rattle.globals.specs.Sheets.{sheets_of}
-use Rattle.workbook.specs.declared.Checked.TheVariants.{Right, Wrong}
-use Rattle.workbook.specs.Check.{checked_of}
+use Rattle.workbook.specs.Check.{Right, Wrong, checked_of}
 use Rattle.reading.specs.Reading.{CellReading, sheet_reading}
 use Rattle.claims.specs.Demand3.{Only, Refusal, spot_of, text_of}
 use Rattle.claims.specs.Demand3 as claims
 use Rattle.pair.specs.declared.Of.{Of}
 use Rattle.pair.specs.declared.Of.TheVariants as of
+use Rattle.pair.specs.declared.StreamRefusal.{StreamRefusal}
+use Rattle.pair.specs.declared.PairRefusal as pair
 use Rattle.pair.specs.declared.PairChecked.{PairChecked}
-use Rattle.pair.specs.declared.PairChecked.TheVariants as checked
-use Rattle.pair.specs.declared.PairCorrected.{PairCorrected}
-use Rattle.pair.specs.declared.PairCorrected.TheVariants as corrected
+use Rattle.pair.specs.Refused.{refuse_of}
 use Rattle.pair.specs.Pair.{pair_of, Passes, sheet_from, pair_correction_of, answer_of, session_after}
 use Rattle.claims.specs.PairReading.{SheetOf, from, pair_reading_of, pair_replaced}
 
@@ -33,6 +32,10 @@ abbrev pub SheetsOverlaid : Type 1
 SheetsOverlaid =
     (A : Type 0) (t s : List ℕ) (n : ℕ) (f : SheetOf → A) (d : A)
     → nth (pair_reading_of t s).sheets n f d ≡ sheet_from t s n (λ w x y. f (from w (sheet_reading x y))) d
+
+-- what a correction of the pair answers: granted or refused
+abbrev pub PairCorrected : Type 0
+PairCorrected = Result (Unit {0}) pair.PairRefusal
 
 -- what `pair_correct` ensures, clause by clause
 pub record Corrects (t s : List ℕ) (n row column : ℕ) (v : NewValue) (r : PairCorrected) (s' : List ℕ) : Type 0 where
@@ -50,7 +53,7 @@ pub record One (t s : List ℕ) (n row column : ℕ) (P : Cell → Type 0) : Typ
 -- ---- what holds of each granted correction: c is the one cell of the address
 abbrev pub Granted : (List ℕ → List ℕ → ℕ → ℕ → ℕ → NewValue → Cell → List ℕ → Type 0) → Type 0
 Granted P =
-    (t s : List ℕ) (n row column : ℕ) (v : NewValue) (s' : List ℕ) → Corrects t s n row column v corrected.Granted s'
+    (t s : List ℕ) (n row column : ℕ) (v : NewValue) (s' : List ℕ) → Corrects t s n row column v (Ok tt) s'
     → One t s n row column (λ c. P t s n row column v c s')
 
 -- that cell's value field holds the new value
@@ -62,9 +65,9 @@ abbrev pub OthersStay : Type 0
 OthersStay =
     Granted (λ t s n row column v c s'. (length s' ≡ length s) × ((j : ℕ) → (j < c.field) ⊎ (c.field + width_of c.kind ≤ j) → get_or s' j 0 ≡ get_or s j 0))
 
-abbrev pub passed : PairChecked → Bool
-passed (checked.Passed g h) = true
-passed (checked.Refused w m o) = false
+abbrev pub passed : Result PairChecked StreamRefusal → Bool
+passed (Ok x) = true
+passed (Err e) = false
 
 -- the pair passes the check, with the same globals
 abbrev pub PairPasses : Type 0
@@ -95,12 +98,12 @@ pub data PairRefusal (t s : List ℕ) (n row column : ℕ) (v : NewValue) : Of �
 abbrev pub RefusedExactly : Type 0
 RefusedExactly =
     (t s : List ℕ) (n row column : ℕ) (v : NewValue) (r : PairCorrected) (s' : List ℕ) → Corrects t s n row column v r s'
-    → (w : Of) (m o : ℕ) → (r ≡ corrected.Refused w m o) ↔ PairRefusal t s n row column v w m o
+    → (w : Of) (m o : ℕ) → (r ≡ refuse_of w m o) ↔ PairRefusal t s n row column v w m o
 
 -- where it is refused, no byte changes
 abbrev pub RefusedKeeps : Type 0
 RefusedKeeps =
-    (t s : List ℕ) (n row column : ℕ) (v : NewValue) (w : Of) (m o : ℕ) (s' : List ℕ) → Corrects t s n row column v (corrected.Refused w m o) s' → s' ≡ s
+    (t s : List ℕ) (n row column : ℕ) (v : NewValue) (w : Of) (m o : ℕ) (s' : List ℕ) → Corrects t s n row column v (refuse_of w m o) s' → s' ≡ s
 
 -- where the pair passes and a packed cell's address occurs once in its sheet of the session, a finite number is refused exactly when no undivided packed
 -- word means it
@@ -108,4 +111,4 @@ abbrev pub PackedExactly : Type 0
 PackedExactly =
     (t s : List ℕ) (g h : Globals) (n row column : ℕ) (c : Cell) (unique : ℕ) (x : Ieee.Float) (r : PairCorrected) (s' : List ℕ)
     → Corrects t s n row column (Number x) r s' → Passes t s g h → Only s g.unique n row column c unique → c.kind ≡ RkWord → finite (bits_of x) ≡ true
-    → (r ≡ corrected.Refused of.Question 18 0) ↔ ((w : ℕ) → Means w (bits_of x) → ⊥)
+    → (r ≡ refuse_of of.Question 18 0) ↔ ((w : ℕ) → Means w (bits_of x) → ⊥)

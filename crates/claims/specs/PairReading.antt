@@ -1,8 +1,8 @@
 -- The reading of a pair: its sheets by number, each with whose it is, and both tables' strings.
-use Rattle.std.specs.Prelude.{ℕ, List, ◌++◌, map, length, drop}
+use Rattle.std.specs.Prelude.{ℕ, List, ◌++◌, map, length, drop, Result, Ok, Err}
 use Rattle.value.specs.declared.CellValue.{CellValue}
-use Rattle.globals.specs.declared.Ended.{Ended}
-use Rattle.globals.specs.declared.Ended.TheVariants as globals
+use Rattle.refusal.specs.declared.Refusal.{Refusal}
+use Rattle.globals.specs.declared.Globals.{Globals}
 use Rattle.globals.specs.Globals.{globals_of}
 use Rattle.reading.specs.Reading.{SheetReading, Reading, reading_of}
 use Rattle.reads_after.specs.Replaced.{replaced_sheet, on_nth}
@@ -26,9 +26,9 @@ abbrev pub overlaid : List SheetReading → List SheetReading → List SheetOf
 overlaid l m = map (from Session) l ++ drop (length (map (from Session) l)) (map (from Template) m)
 
 -- the unique count that the template lends
-abbrev pub lent_by : Ended → ℕ
-lent_by (globals.At g) = g.unique
-lent_by (globals.Refused n o) = 0
+abbrev pub lent_by : Result Globals Refusal → ℕ
+lent_by (Ok g) = g.unique
+lent_by (Err e) = 0
 
 abbrev pub joined : Reading → Reading → PairReading
 joined r q = record { sheets = overlaid q.sheets r.sheets; template = r.strings; session = q.strings }

@@ -1,7 +1,6 @@
 -- A table of string places outlives corrections: a granted correction writes outside the string table. s is the stream before it, t the stream after it,
 -- a the lent table before filling.
-use Rattle.std.specs.Prelude.{ℕ, ◌≡◌, List}
-use Rattle.string_places.specs.declared.Filled.TheVariants.{Strings}
+use Rattle.std.specs.Prelude.{ℕ, ◌≡◌, List, Ok}
 use Rattle.string_places.specs.Places.{fill_of, table_after, through_of, buffer_through}
 use Rattle.claims.specs.Demand3.{Granted}
 
@@ -13,5 +12,5 @@ SameTable = Granted (λ s lent n row column v c t. (a : List ℕ) → (fill_of t
 abbrev pub Outlives : Type 0
 Outlives =
     Granted (λ s lent n row column v c t.
-    (a : List ℕ) (k : ℕ) → fill_of s lent a ≡ Strings k → (i : ℕ) (b : List ℕ)
+    (a : List ℕ) (k : ℕ) → fill_of s lent a ≡ Ok k → (i : ℕ) (b : List ℕ)
     → (through_of t (table_after s lent a) i b ≡ through_of s (table_after s lent a) i b) × (buffer_through t (table_after s lent a) i b ≡ buffer_through s (table_after s lent a) i b))

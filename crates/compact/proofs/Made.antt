@@ -16,34 +16,35 @@ use Rattle.strings.proofs.Local.{right}
 use Rattle.strings.proofs.Laws.{strings_count}
 use Rattle.globals.specs.declared.Globals.{Globals}
 use Rattle.globals.proofs.Table.{Stands, table_told}
-use Rattle.workbook.specs.declared.Checked.TheVariants.{Right}
-use Rattle.workbook.specs.Check.{checked_of}
+use Rattle.workbook.specs.Check.{Right, checked_of}
 use Rattle.record_chain.proofs.Chain.{every_map}
 use Rattle.record_chain.proofs.Sheets.{passing}
 use Rattle.table_texts.specs.Texts.{text_at, the_text, texts_of, kept}
 use Rattle.table_texts.specs.Written.{table_bytes, table_size}
 use Rattle.table_texts.proofs.Size.{table_size_lem}
-use Rattle.new_stream.specs.Entries as entries
-use Rattle.new_stream.specs.Entries.{Entry, entries_of}
+use Rattle.new_stream.specs.declared.Fate.{Fate}
+use Rattle.new_stream.specs.declared.Fate.TheVariants as fate
+use Rattle.new_stream.specs.declared.Entry.{Entry}
+use Rattle.new_stream.specs.Entries.{size_for, entries_of}
 use Rattle.new_stream.specs.Compact.{place_in, texts_in, used_below, compact_with}
 use Rattle.new_table.specs.NewTable.{Bytes, marks_from, new_texts, new_table}
 use Rattle.new_table.proofs.Claims.{new_count}
 use Rattle.table_writer.specs.Writing.{texts_from}
-use Rattle.copied_records.specs.Copied.{size_for, sizes, edited, copied_entry}
-use Rattle.new_fields.specs.Edited.{table_change, sheet_change, place_for}
+use Rattle.new_places.specs.Places.{sizes, place_for}
+use Rattle.copied_records.specs.Copied.{edited, copied_entry}
+use Rattle.new_fields.specs.Edited.{table_change, sheet_change}
 use Rattle.new_fields.proofs.Places.{place_same}
 use Rattle.new_fields.proofs.Whole.{text_to, Stage, stage_copied, stage_table, stage_none, stage_sheets, stage_done, told_below, told_stays, compact_length, Ready}
 use Rattle.table_chunks.specs.Chosen.{chosen}
 use Rattle.new_fields.proofs.Indices.{reindexed_stage}
-use Rattle.compact.specs.declared.Plan.{Plan}
-use Rattle.compact.specs.Parts.{bytes_for, Rewritten}
+use Rattle.compact.specs.Parts.{Rewritten}
 
 -- ---- positions told by the table's size
 sheets_are : (s T o : List ℕ) → edited (sheet_change s (place_for (length T) (entries_of s))) (length T) (entries_of s) o 0 ≡ edited (sheet_change s (place_in T (entries_of s))) (length T) (entries_of s) o 0
 sheets_are s T o = λ i. edited (sheet_change s (λ p. sym (place_same T (entries_of s) p) i)) (length T) (entries_of s) o 0
 
 -- ---- with a table
-pub new_made : (s T o o₁ o' : List ℕ) (top : ℕ) → Ready s T o → 4 ≤ length T → Every (λ (x : Entry). x.fate ≡ entries.text → u32_at s (x.at + 10) < top) (entries_of s)
+pub new_made : (s T o o₁ o' : List ℕ) (top : ℕ) → Ready s T o → 4 ≤ length T → Every (λ (x : Entry). x.fate ≡ fate.Text → u32_at s (x.at + 10) < top) (entries_of s)
     → o₁ ≡ edited (table_change T) (length T) (entries_of s) (edited (copied_entry s) (length T) (entries_of s) o 0) 0 → Rewritten s (length T) top o₁ o' → o' ≡ compact_with s T ++ drop (length (compact_with s T)) o
 new_made s T o o₁ o' top r some below first w =
     let n = compact_length s T in
@@ -56,8 +57,8 @@ new_made s T o o₁ o' top r some below first w =
     let to = w.runs.to in
     let d = reindexed_stage s T post o₁ w.middle top some y w.runs in
     let e = stage_sheets s T (text_to s T to) post w.middle d in
-    let up : Every (λ (x : Entry). x.fate ≡ entries.text → u32_at s (x.at + 10) < w.runs.to) (entries_of s) =
-    every_map (λ (x : Entry). x.fate ≡ entries.text → u32_at s (x.at + 10) < top) (λ (x : Entry). x.fate ≡ entries.text → u32_at s (x.at + 10) < w.runs.to) (λ x h i. let l = h i in let m = w.runs.past in omega arith) (entries_of s) below in
+    let up : Every (λ (x : Entry). x.fate ≡ fate.Text → u32_at s (x.at + 10) < w.runs.to) (entries_of s) =
+    every_map (λ (x : Entry). x.fate ≡ fate.Text → u32_at s (x.at + 10) < top) (λ (x : Entry). x.fate ≡ fate.Text → u32_at s (x.at + 10) < w.runs.to) (λ x h i. let l = h i in let m = w.runs.past in omega arith) (entries_of s) below in
     w.is ∙ sheets_are s T w.middle
     ∙ stage_done s T (text_to s T to) post _ e (told_below s T to (entries_of s) up)
     ∙ ap (λ (k : ℕ). compact_with s T ++ drop k o) (sym n)
@@ -68,12 +69,12 @@ unfolding edited
 table_none n [] o q = refl
 table_none n (x ∷ l) o q = ap (λ (y : List ℕ). edited (table_change []) n l y (q + size_for n x.size x.fate)) (one x.fate) ∙ table_none n l o (q + size_for n x.size x.fate)
   where
-    one : (y : entries.Fate) → table_change [] x.at x.size y o q ≡ o
-    one entries.stays = refl
-    one entries.goes = refl
-    one entries.table = refl
-    one entries.text = refl
-    one entries.sheet = refl
+    one : (y : Fate) → table_change [] x.at x.size y o q ≡ o
+    one fate.Stays = refl
+    one fate.Goes = refl
+    one fate.Table = refl
+    one fate.Text = refl
+    one fate.Sheet = refl
 
 pub none_made : (s o o₁ o' : List ℕ) → Bytes s → Ready s [] o → o₁ ≡ edited (copied_entry s) 0 (entries_of s) o 0 → o' ≡ edited (sheet_change s (place_for 0 (entries_of s))) 0 (entries_of s) o₁ 0 → o' ≡ compact_with s [] ++ drop (length (compact_with s [])) o
 none_made s o o₁ o' bytes r e f =
@@ -133,16 +134,12 @@ module _ (s : List ℕ) (u : ℕ) (g : Globals) (bytes : Bytes s) (ok : checked_
       ap (kept (marks_from (texts_in s (entries_of s)) 0 g.unique))
       (ap (λ (n : ℕ). texts_from s n (first g.table end)) (sym unique_is) ∙ texts_are)
 
-  -- a plan for it
-  module _ (t : Plan) (head : t.head ≡ g.table) (to : t.end ≡ g.table + 4 + u16_at s (g.table + 2)) (unique : t.unique ≡ g.unique) where
-    chosen_same : chosen s 0 t.unique (first t.head t.end) ≡ new_texts s g
-    chosen_same = (λ i. chosen s 0 (unique i) (first (head i) (to i))) ∙ chosen_are
+  -- the new table
+  pub bytes_are : (n : ℕ) → n ≡ length (texts_in s (entries_of s)) → table_bytes n (chosen s 0 g.unique (first g.table (g.table + 4 + u16_at s (g.table + 2)))) ≡ new_table s g
+  bytes_are n e = ap₂ table_bytes e chosen_are ∙ sym (table_some s g some)
 
-    pub bytes_are : t.total ≡ length (texts_in s (entries_of s)) → bytes_for s t ≡ new_table s g
-    bytes_are e = ap₂ table_bytes e chosen_same ∙ sym (table_some s g some)
+  pub size_are : table_size (chosen s 0 g.unique (first g.table (g.table + 4 + u16_at s (g.table + 2)))) ≡ length (new_table s g)
+  size_are = ap table_size chosen_are ∙ sym (table_size_lem (length (texts_in s (entries_of s))) (new_texts s g)) ∙ ap length (sym (table_some s g some))
 
-    pub size_are : table_size (chosen s 0 t.unique (first t.head t.end)) ≡ length (new_table s g)
-    size_are = ap table_size chosen_same ∙ sym (table_size_lem (length (texts_in s (entries_of s))) (new_texts s g)) ∙ ap length (sym (table_some s g some))
-
-    pub count_are : t.count ≡ used_below (texts_in s (entries_of s)) g.unique → t.count ≡ length (chosen s 0 t.unique (first t.head t.end))
-    count_are e = e ∙ sym (new_count s u g bytes ok some) ∙ ap length (sym chosen_same)
+  pub count_are : (n : ℕ) → n ≡ used_below (texts_in s (entries_of s)) g.unique → n ≡ length (chosen s 0 g.unique (first g.table (g.table + 4 + u16_at s (g.table + 2))))
+  count_are n e = e ∙ sym (new_count s u g bytes ok some) ∙ ap length (sym chosen_are)

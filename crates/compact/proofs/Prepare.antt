@@ -13,26 +13,28 @@ use Rattle.byte_numbers.specs.Bytes.{u16_at, u32_at}
 use Rattle.segments.specs.Parts.{Inside, Passes}
 use Rattle.strings.specs.Table.{strings, first}
 use Rattle.globals.specs.declared.Globals.{Globals}
-use Rattle.workbook.specs.declared.Checked.{Checked}
-use Rattle.workbook.specs.declared.Checked.TheVariants.{Right, Wrong}
-use Rattle.workbook.specs.Check.{checked_of, on_checked}
+use Rattle.workbook.specs.Check.{Checked, Right, checked_of, on_checked}
 use Rattle.record_chain.proofs.Sheets.{passing}
-use Rattle.table_texts.specs.Written.{table_size}
+use Rattle.table_texts.specs.Texts.{Text}
+use Rattle.table_texts.specs.Written.{table_bytes, table_size}
 use Rattle.table_texts.proofs.Held.{num_below}
 use Rattle.table_size.specs.Sizing.{Counted}
-use Rattle.new_stream.specs.Entries as entries
-use Rattle.new_stream.specs.Entries.{Entry, entries_of}
+use Rattle.new_stream.specs.declared.Fate.{Fate}
+use Rattle.new_stream.specs.declared.Fate.TheVariants as fate
+use Rattle.new_stream.specs.declared.Entry.{Entry}
+use Rattle.new_stream.specs.Entries.{entries_of}
 use Rattle.new_stream.specs.Compact.{on_text, texts_in, used_below}
 use Rattle.new_stream.specs.Claims.{Standing, place_of}
 use Rattle.new_stream.proofs.Check.{compacted}
 use Rattle.new_table.specs.NewTable.{Bytes, new_table, compacted_of, compact_of}
 use Rattle.new_table.proofs.Claims.{new_table_lem, new_is}
-use Rattle.table_chunks.specs.Chosen.{chosen}
+use Rattle.table_chunks.specs.Chosen.{chosen, used_of}
 use Rattle.new_fields.specs.Runs.{top_in}
 use Rattle.new_fields.proofs.Indices.{all_below}
-use Rattle.compact.specs.declared.Plan.{Plan}
-use Rattle.compact.specs.declared.Compacted.{Compacted}
-use Rattle.compact.specs.declared.Compacted.TheVariants.{Refused}
+use Rattle.compact.specs.declared.plan.Plan.{Plan}
+use Rattle.std.specs.Prelude.{Result, Err}
+use Rattle.refusal.specs.Refused.{refuse}
+use Rattle.refusal.specs.declared.Refusal.{Refusal}
 use Rattle.compact.specs.Compacted.{answer_to, buffer_to, answer_of, buffer_after}
 use Rattle.compact.specs.Parts.{Tabled, Prepared}
 use Rattle.new_table.proofs.Marks.{texts_few}
@@ -59,12 +61,12 @@ top_low s bytes (x ∷ l) r h = by x.fate (λ k i. top_low s bytes l k i)
     low : step ≤ 4294967296
     low = let a = num_below s bytes 4 4 (x.at + 10) (omega arith) in pick_any (λ (n : ℕ). n ≤ 4294967296) (ltb (u32_at s (x.at + 10)) r) h (omega arith)
 
-    by : (f : entries.Fate) → ((k : ℕ) → k ≤ 4294967296 → top_in (texts_in s l) k ≤ 4294967296) → top_in (on_text s x.at f (texts_in s l)) r ≤ 4294967296
-    by entries.stays again = again r h
-    by entries.goes again = again r h
-    by entries.table again = again r h
-    by entries.text again = again step low
-    by entries.sheet again = again r h
+    by : (f : Fate) → ((k : ℕ) → k ≤ 4294967296 → top_in (texts_in s l) k ≤ 4294967296) → top_in (on_text s x.at f (texts_in s l)) r ≤ 4294967296
+    by fate.Stays again = again r h
+    by fate.Goes again = again r h
+    by fate.Table again = again r h
+    by fate.Text again = again step low
+    by fate.Sheet again = again r h
 
 module _ (s : List ℕ) (u : ℕ) (g : Globals) (few : u ≤ 256 ^ 4) (bytes : Bytes s) (ok : checked_of s u ≡ Right g) (some : g.table ≡ 0 → ⊥) where
   abbrev end : ℕ
@@ -72,9 +74,6 @@ module _ (s : List ℕ) (u : ℕ) (g : Globals) (few : u ≤ 256 ^ 4) (bytes : B
 
   -- ---- a table that is too large makes the new stream too large
   module _ (n : ℕ) (large : 16777216 < n) (is : Counted (chosen s 0 g.unique (first g.table (g.table + 4 + u16_at s (g.table + 2)))) n) where
-    abbrev plan : Plan
-    plan = record { head = g.table; end = end; unique = g.unique; total = 0; count = 0; size = 0 }
-
     table_large : 16777216 < length (new_table s g)
     table_large = by (leb (table_size (chosen s 0 g.unique (first g.table (g.table + 4 + u16_at s (g.table + 2))))) 16777216) refl
       where
@@ -85,7 +84,7 @@ module _ (s : List ℕ) (u : ℕ) (g : Globals) (few : u ≤ 256 ^ 4) (bytes : B
             absurd (omega arith)
         by false e =
             let a : 16777216 < table_size (chosen s 0 g.unique (first g.table (g.table + 4 + u16_at s (g.table + 2)))) = leb-false (table_size (chosen s 0 g.unique (first g.table (g.table + 4 + u16_at s (g.table + 2))))) 16777216 e in
-            subst (λ (k : ℕ). 16777216 < k) (size_are s u g bytes ok some plan refl refl refl) a
+            subst (λ (k : ℕ). 16777216 < k) (size_are s u g bytes ok some) a
 
     pub stream_large : 16777216 < length (compacted_of s g)
     stream_large = by (leb (length (compacted_of s g)) 16777216) refl
@@ -99,33 +98,24 @@ module _ (s : List ℕ) (u : ℕ) (g : Globals) (few : u ≤ 256 ^ 4) (bytes : B
         by false e = leb-false (length (compacted_of s g)) 16777216 e
 
   -- ---- a plan
-  pub prepared : (t : Plan) (top : ℕ) → t.head ≡ g.table → t.end ≡ g.table + 4 + u16_at s (g.table + 2) → t.unique ≡ g.unique → t.total ≡ length (texts_in s (entries_of s))
-      → t.count ≡ used_below (texts_in s (entries_of s)) t.unique → Counted (chosen s 0 t.unique (first t.head t.end)) t.size → t.size ≤ 16777216 → top ≡ top_in (texts_in s (entries_of s)) 0
-      → Prepared s g t top
-  prepared t top head to unique total count counted small is = record {
+  pub prepared : (t : Plan) (top : ℕ) → used_of 0 t.texts ≡ chosen s 0 g.unique (first g.table (g.table + 4 + u16_at s (g.table + 2))) → t.total ≡ length (texts_in s (entries_of s)) → t.size ≤ 16777216 → top ≡ top_in (texts_in s (entries_of s)) 0 → Prepared s g t top
+  prepared t top same total small is = record {
     passed = record { bytes = bytes; lent = u; few = few; ok = ok };
     some = some;
-    planned = record {
-      short = (passing s u g ok).short;
-      few = let a = num_below s bytes 4 4 (g.table + 8) (omega arith) in let b = unique_is s u g bytes ok some in omega arith;
-      inside = subst (λ (p : ℕ). Inside s (first p t.end)) (sym head) (subst (λ (e : ℕ). Inside s (first g.table e)) (sym to) (old_inside s u g bytes ok some));
-      passes = subst (λ (n : ℕ). Passes (strings s n (first t.head t.end))) (sym unique) (subst (λ (p : ℕ). Passes (strings s g.unique (first p t.end))) (sym head) (subst (λ (e : ℕ). Passes (strings s g.unique (first g.table e))) (sym to) (old_passes s u g bytes ok some)));
-      counted = count_are s u g bytes ok some t head to unique (count ∙ ap (used_below (texts_in s (entries_of s))) unique);
-      sized = sized;
-    };
-    table = bytes_are s u g bytes ok some t head to unique total;
-    size = sized ∙ size_are s u g bytes ok some t head to unique;
+    table = ap (table_bytes t.total) same ∙ bytes_are s u g bytes ok some t.total total;
+    size = t.sized ∙ ap table_size same ∙ size_are s u g bytes ok some;
     small = small;
     below = all_below s (entries_of s) 0 top (omega arith);
     high = let a = top_low s bytes (entries_of s) 0 (omega arith) in omega arith;
   }
-    where
-      sized : t.size ≡ table_size (chosen s 0 t.unique (first t.head t.end))
-      sized = by (leb (table_size (chosen s 0 t.unique (first t.head t.end))) 16777216) refl
-        where
-          by : (b : Bool) → leb (table_size (chosen s 0 t.unique (first t.head t.end))) 16777216 ≡ b → t.size ≡ table_size (chosen s 0 t.unique (first t.head t.end))
-          by true e = counted.right (leb-true _ _ e)
-          by false e = let a = counted.over (leb-false _ _ e) in absurd (omega arith)
+
+-- the count of a table that is small enough is its size
+pub counted_size : (ts : List Text) (n : ℕ) → Counted ts n → n ≤ 16777216 → n ≡ table_size ts
+counted_size ts n counted small = by (leb (table_size ts) 16777216) refl
+  where
+    by : (b : Bool) → leb (table_size ts) 16777216 ≡ b → n ≡ table_size ts
+    by true e = counted.right (leb-true _ _ e)
+    by false e = let a = counted.over (leb-false _ _ e) in absurd (omega arith)
 
 -- ---- as the functions cite it
 module _ (s : List ℕ) (g : Globals) (x : Tabled s g) where
@@ -158,35 +148,40 @@ module _ (s : List ℕ) (g : Globals) (x : Tabled s g) where
       counted_old : Counted (chosen s 0 g.unique (first g.table (g.table + 4 + u16_at s (g.table + 2)))) m
       counted_old = subst (λ (k : ℕ). Counted (chosen s 0 k (first g.table (g.table + 4 + u16_at s (g.table + 2)))) m) unique (subst (λ (k : ℕ). Counted (chosen s 0 n (first g.table k)) m) to is)
 
-      pub with_large : (b : List ℕ) → 16777216 < m → Refused 1 0 ≡ answer_to (compacted_of s g) b
+      pub with_large : (b : List ℕ) → 16777216 < m → refuse 1 0 ≡ answer_to (compacted_of s g) b
       with_large b h = answer_large (compacted_of s g) b (length (compacted_of s g)) refl (stream_large s x.passed.lent g x.passed.few x.passed.bytes x.passed.ok x.some m h counted_old)
 
       pub with_large_buffer : (b : List ℕ) → 16777216 < m → b ≡ buffer_to (compacted_of s g) b
       with_large_buffer b h = buffer_large (compacted_of s g) b (length (compacted_of s g)) refl (stream_large s x.passed.lent g x.passed.few x.passed.bytes x.passed.ok x.some m h counted_old)
 
-      pub with_plan : (total count top : ℕ) → total ≡ length (texts_in s (entries_of s)) → count ≡ used_below (texts_in s (entries_of s)) n → m ≤ 16777216 → top ≡ top_in (texts_in s (entries_of s)) 0
-          → Prepared s g (record { head = g.table; end = e; unique = n; total = total; count = count; size = m }) top
-      with_plan total count top a b c d = prepared s x.passed.lent g x.passed.few x.passed.bytes x.passed.ok x.some (record { head = g.table; end = e; unique = n; total = total; count = count; size = m }) top refl to unique a b is c d
+    chosen_old : chosen s 0 n (first g.table e) ≡ chosen s 0 g.unique (first g.table (g.table + 4 + u16_at s (g.table + 2)))
+    chosen_old = λ i. chosen s 0 (unique i) (first g.table (to i))
 
-pub ruleset with_laws = (with_low, with_short, with_head, with_few, with_total, with_count, with_inside, with_passes, with_large, with_large_buffer, with_plan)
+    pub with_counted : (count : ℕ) → count ≡ used_below (texts_in s (entries_of s)) n → count ≡ length (chosen s 0 n (first g.table e))
+    with_counted count h = count_are s x.passed.lent g x.passed.bytes x.passed.ok x.some count (h ∙ ap (used_below (texts_in s (entries_of s))) unique) ∙ ap length (sym chosen_old)
+
+    pub with_plan : (t : Plan) (top : ℕ) → used_of 0 t.texts ≡ chosen s 0 n (first g.table e) → t.total ≡ length (texts_in s (entries_of s)) → t.size ≤ 16777216 → top ≡ top_in (texts_in s (entries_of s)) 0 → Prepared s g t top
+    with_plan t top same total small is = prepared s x.passed.lent g x.passed.few x.passed.bytes x.passed.ok x.some t top (same ∙ chosen_old) total small is
+
+pub ruleset with_laws = (with_low, with_short, with_head, with_few, with_total, with_count, with_inside, with_passes, with_large, with_large_buffer, with_counted, counted_size, with_plan)
 
 -- ---- the check's answer
 module _ (s : List ℕ) (u : ℕ) (b : List ℕ) (x : Checked) (is : x ≡ checked_of s u) where
-  pub wrong_answer : (n o : ℕ) → x ≡ Wrong n o → Refused n o ≡ answer_of s u b
+  pub wrong_answer : (r : Refusal) → x ≡ Err r → Err r ≡ answer_of s u b
   unfolding answer_of
-  wrong_answer n o h = ap (on_checked (λ n o. Refused n o) (λ _. answer_to (compact_of s u) b)) (sym h ∙ is)
+  wrong_answer r h = ap (on_checked (λ n o. refuse n o) (λ _. answer_to (compact_of s u) b)) (sym h ∙ is)
 
-  pub wrong_buffer : (n o : ℕ) → x ≡ Wrong n o → b ≡ buffer_after s u b
+  pub wrong_buffer : (r : Refusal) → x ≡ Err r → b ≡ buffer_after s u b
   unfolding buffer_after
-  wrong_buffer n o h = ap (on_checked (λ n o. b) (λ _. buffer_to (compact_of s u) b)) (sym h ∙ is)
+  wrong_buffer r h = ap (on_checked (λ n o. b) (λ _. buffer_to (compact_of s u) b)) (sym h ∙ is)
 
   module _ (g : Globals) (h : x ≡ Right g) where
     stream_is : compacted_of s g ≡ compact_of s u
     stream_is = sym (new_is s u g (sym is ∙ h))
 
-    pub right_answer : (r : Compacted) → r ≡ answer_to (compacted_of s g) b → r ≡ answer_of s u b
+    pub right_answer : (r : Result ℕ Refusal) → r ≡ answer_to (compacted_of s g) b → r ≡ answer_of s u b
     unfolding answer_of
-    right_answer r e = e ∙ ap (λ (t : List ℕ). answer_to t b) stream_is ∙ ap (on_checked (λ n o. Refused n o) (λ _. answer_to (compact_of s u) b)) (sym h ∙ is)
+    right_answer r e = e ∙ ap (λ (t : List ℕ). answer_to t b) stream_is ∙ ap (on_checked (λ n o. refuse n o) (λ _. answer_to (compact_of s u) b)) (sym h ∙ is)
 
     pub right_buffer : (b' : List ℕ) → b' ≡ buffer_to (compacted_of s g) b → b' ≡ buffer_after s u b
     unfolding buffer_after

@@ -1,37 +1,31 @@
 -- What the contracts of the inner functions speak of.
-use Rattle.std.specs.Prelude.{ℕ, ◌+◌, ◌^◌, ◌≤◌, ◌<◌, ◌≡◌, List, length}
-use Rattle.segments.specs.Parts.{Inside, Passes}
-use Rattle.strings.specs.Table.{strings, first}
-use Rattle.table_texts.specs.Written.{table_bytes, table_size}
+use Rattle.std.specs.Prelude.{ℕ, ◌+◌, ◌^◌, ◌≤◌, ◌<◌, ◌≡◌, List, Result, length}
+use Rattle.table_texts.specs.Written.{table_bytes}
 use Rattle.byte_numbers.specs.Bytes.{u32_at}
 use Rattle.globals.specs.declared.Globals.{Globals}
-use Rattle.workbook.specs.declared.Checked.TheVariants.{Right}
-use Rattle.workbook.specs.Check.{checked_of}
+use Rattle.workbook.specs.Check.{Right, checked_of}
 use Rattle.reading.specs.Claims.{Every}
-use Rattle.new_stream.specs.Entries.{Entry, text, entries_of}
+use Rattle.new_stream.specs.declared.Fate.TheVariants.{Text}
+use Rattle.new_stream.specs.declared.Entry.{Entry}
+use Rattle.new_stream.specs.Entries.{entries_of}
+use Rattle.new_stream.specs.Compact.{compact_with}
+use Rattle.new_places.specs.Places.{place_for}
 use Rattle.new_table.specs.NewTable.{Bytes, new_table}
-use Rattle.table_chunks.specs.Chosen.{chosen}
+use Rattle.table_chunks.specs.Chosen.{used_of}
 use Rattle.copied_records.specs.Copied.{edited, copied_entry}
-use Rattle.new_fields.specs.Edited.{table_change, sheet_change, place_for}
+use Rattle.new_fields.specs.Edited.{table_change, sheet_change}
 use Rattle.new_fields.specs.Runs.{Reindexed}
-use Rattle.compact.specs.declared.Plan.{Plan}
+use Rattle.refusal.specs.declared.Refusal.{Refusal}
+use Rattle.compact.specs.declared.plan.Plan.{Plan}
+use Rattle.compact.specs.Compacted.{answer_to}
 
 -- the bytes of the new table
-abbrev pub bytes_for : List ℕ → Plan → List ℕ
-bytes_for s t = table_bytes t.total (chosen s 0 t.unique (first t.head t.end))
-
--- the old table is right, and the plan's count and size are those of the new one
-pub record Planned (s : List ℕ) (t : Plan) : Type 0 where
-  pub short : length s ≤ 16777216
-  pub few : t.unique < 4294967296
-  pub inside : Inside s (first t.head t.end)
-  pub passes : Passes (strings s t.unique (first t.head t.end))
-  pub counted : t.count ≡ length (chosen s 0 t.unique (first t.head t.end))
-  pub sized : t.size ≡ table_size (chosen s 0 t.unique (first t.head t.end))
+abbrev pub bytes_for : Plan → List ℕ
+bytes_for t = table_bytes t.total (used_of 0 t.texts)
 
 -- what stays, and the new table in its place
-unfoldable pub tabled : List ℕ → Plan → List ℕ → List ℕ
-tabled s t o = edited (table_change (bytes_for s t)) t.size (entries_of s) (edited (copied_entry s) t.size (entries_of s) o 0) 0
+unfoldable pub tabled : Plan → List ℕ → List ℕ
+tabled t o = edited (table_change (bytes_for t)) t.size (entries_of t.texts.stream.now) (edited (copied_entry t.texts.stream.now) t.size (entries_of t.texts.stream.now) o 0) 0
 
 -- new indices below top, then new positions
 pub record Rewritten (s : List ℕ) (n top : ℕ) (o o' : List ℕ) : Type 0 where
@@ -60,9 +54,12 @@ pub record Untabled (s : List ℕ) (g : Globals) : Type 0 where
 pub record Prepared (s : List ℕ) (g : Globals) (t : Plan) (top : ℕ) : Type 0 where
   pub passed : Passed s g
   pub some : g.table ≡ 0 → ⊥
-  pub planned : Planned s t
-  pub table : bytes_for s t ≡ new_table s g
+  pub table : bytes_for t ≡ new_table s g
   pub size : t.size ≡ length (new_table s g)
   pub small : t.size ≤ 16777216
-  pub below : Every (λ (x : Entry). x.fate ≡ text → u32_at s (x.at + 10) < top) (entries_of s)
+  pub below : Every (λ (x : Entry). x.fate ≡ Text → u32_at s (x.at + 10) < top) (entries_of s)
   pub high : top ≤ 4294967296
+
+-- r is the answer, where the new table has n bytes and the buffer m
+abbrev pub Measured : List ℕ → ℕ → ℕ → Result ℕ Refusal → Type 0
+Measured s n m r = (T b : List ℕ) → length T ≡ n → length b ≡ m → r ≡ answer_to (compact_with s T) b

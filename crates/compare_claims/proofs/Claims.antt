@@ -7,9 +7,8 @@ use native.Mathlib.Omega.{arith}
 use Rattle.steps.specs.Choice.{pick}
 use Rattle.steps.proofs.Choice.{pick_false, never}
 use Rattle.globals.specs.declared.Globals.{Globals}
-use Rattle.workbook.specs.declared.Checked.{Checked}
-use Rattle.workbook.specs.declared.Checked.TheVariants.{Right, Wrong}
-use Rattle.workbook.specs.Check.{checked_of, on_checked}
+use Rattle.std.specs.Prelude.{Ok, Err}
+use Rattle.workbook.specs.Check.{Checked, Right, checked_of, on_checked}
 use Rattle.reading.specs.Reading.{reading_of}
 use Rattle.differences.specs.Differences.{Difference, none, name, only_first, only_second, unequal, difference_at, words_of, words_from, keys_of, twice_in, differences}
 use Rattle.differences.specs.Claims.{AscendFrom}
@@ -42,12 +41,12 @@ module _ (s t : List ℕ) (from : ℕ) (l : List ℕ) where
       record { once_first = i; once_second = j; all = sym e; ascend = subst (AscendFrom from) e (ascending (reading_of s 0) (reading_of t 0) from) }
 
   by_second : (r : Checked) → on_checked (refuses side.Second) (λ _. judged s t from (twice_in (reading_of s 0).sheets) (twice_in (reading_of t 0).sheets)) r ≡ lists l → Listed s t from l
-  by_second (Right g) h = by_twice (twice_in (reading_of s 0).sheets) (twice_in (reading_of t 0).sheets) refl refl h
-  by_second (Wrong n o) h = never (cc)
+  by_second (Ok g) h = by_twice (twice_in (reading_of s 0).sheets) (twice_in (reading_of t 0).sheets) refl refl h
+  by_second (Err r) h = never (cc)
 
   by_first : (r : Checked) → on_checked (refuses side.First) (λ _. on_checked (refuses side.Second) (λ _. judged s t from (twice_in (reading_of s 0).sheets) (twice_in (reading_of t 0).sheets)) (checked_of t 0)) r ≡ lists l → Listed s t from l
-  by_first (Right g) h = by_second (checked_of t 0) h
-  by_first (Wrong n o) h = never (cc)
+  by_first (Ok g) h = by_second (checked_of t 0) h
+  by_first (Err r) h = never (cc)
 
 pub lists_differences : ListsDifferences
 unfolding comparison_of

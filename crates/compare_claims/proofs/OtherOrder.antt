@@ -10,9 +10,8 @@ use borrow.Author.Tests.{eqb-true, eqb-false, eq-eqb, ne_eqb}
 use Rattle.steps.specs.Choice.{pick}
 use Rattle.steps.proofs.Choice.{pick_eq, pick_ne, never}
 use Rattle.steps.specs.Items.{nth}
-use Rattle.workbook.specs.declared.Checked.{Checked}
-use Rattle.workbook.specs.declared.Checked.TheVariants.{Right, Wrong}
-use Rattle.workbook.specs.Check.{checked_of, on_checked}
+use Rattle.std.specs.Prelude.{Ok, Err}
+use Rattle.workbook.specs.Check.{Checked, checked_of, on_checked}
 use Rattle.value.specs.declared.CellValue.{CellValue}
 use Rattle.reading.specs.Reading.{SheetReading, Reading, reading_of}
 use Rattle.differences.specs.Differences.{same, shown, chars_of, Held, nothing, holds, held_at, Difference, none, name, only_first, only_second, unequal, alike, between, cells_in, cell_difference, names_between, name_difference, addresses, sheet_keys, difference_in, difference_at, words_of, words_from, keys_of, twice_in, differences}
@@ -132,9 +131,9 @@ module _ (s t : List ℕ) (from : ℕ) (l : List ℕ) where
 
   by_checks : (x y : Bool) (a b : Checked) → on_checked (refuses side.First) (λ _. on_checked (refuses side.Second) (λ _. judged s t from x y) b) a ≡ lists l
       → on_checked (refuses side.First) (λ _. on_checked (refuses side.Second) (λ _. judged t s from y x) a) b ≡ lists (map other_word l)
-  by_checks x y (Right g) (Right h) e = by_twice x y e
-  by_checks x y (Right g) (Wrong n o) e = never (cc)
-  by_checks x y (Wrong n o) b e = never (cc)
+  by_checks x y (Ok g) (Ok h) e = by_twice x y e
+  by_checks x y (Ok g) (Err r) e = never (cc)
+  by_checks x y (Err r) b e = never (cc)
 
 pub other_order : OtherOrder
 unfolding comparison_of

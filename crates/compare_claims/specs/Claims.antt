@@ -2,8 +2,7 @@
 use Rattle.std.specs.Prelude.{ℕ, ◌+◌, ◌-◌, ◌/◌, ◌%◌, ◌≡◌, false, List, [], ◌∷◌, ◌++◌, map, eqb}
 use Rattle.steps.specs.Choice.{pick}
 use Rattle.globals.specs.declared.Globals.{Globals}
-use Rattle.workbook.specs.declared.Checked.TheVariants.{Right}
-use Rattle.workbook.specs.Check.{checked_of}
+use Rattle.workbook.specs.Check.{Right, checked_of}
 use Rattle.reading.specs.Reading.{Reading, reading_of}
 use Rattle.differences.specs.Differences.{twice_in, differences}
 use Rattle.differences.specs.Claims.{AscendFrom}

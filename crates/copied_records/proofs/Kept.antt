@@ -2,53 +2,35 @@
 use Prim.Native.Nat.{ℕ, ◌+◌, ◌≤◌}
 use mathlib.Core.Path.{◌≡◌, refl}
 use mathlib.Core.List.{List}
-use mathlib.Core.Bool.{false}
+use native.Mathlib.Omega.{arith}
 use lib.ListN.{length}
-use lib.Seq.{sets, length-sets}
+use lib.Seq.{length-sets}
 use Rattle.byte_numbers.specs.Bytes.{bytes_at}
-use Rattle.new_stream.specs.Entries as entries
-use Rattle.new_stream.specs.Entries.{Entry, start, entries_of}
+use Rattle.new_stream.specs.declared.Fate.{Fate}
+use Rattle.new_stream.specs.declared.Fate.TheVariants.{Stays, Goes, Table, Text, Sheet}
+use Rattle.new_stream.specs.declared.Entry.{Entry}
+use Rattle.new_stream.specs.Entries.{size_for, start, entries_of}
 use Rattle.new_stream.proofs.Places.{entries_lie}
-use Rattle.new_places.specs.declared.Fate.{Fate}
-use Rattle.new_places.specs.declared.Fate.TheVariants.{Stays, Text, Sheet}
-use Rattle.new_places.specs.Parts.{fated}
-use Rattle.copied_records.specs.Copied.{size_for, sizes, copied_entry}
+use Rattle.new_places.specs.Places.{sizes}
+use Rattle.copied_records.specs.Copied.{copied_entry}
 use Rattle.copied_records.proofs.Editing.{Keeps, Editing, editing_start}
 
--- ---- one entry
-module _ (f : Fate) (n z q m : ℕ) where
-  pub room_stays : f ≡ Stays → q + size_for n z (fated f) ≤ m → q + z ≤ m
-  room_stays e h = rw e at h
-
-  pub room_text : f ≡ Text → q + size_for n z (fated f) ≤ m → q + z ≤ m
-  room_text e h = rw e at h
-
-  pub room_sheet : f ≡ Sheet → q + size_for n z (fated f) ≤ m → q + z ≤ m
-  room_sheet e h = rw e at h
-
-module _ (f : Fate) (s o o' : List ℕ) (p z q : ℕ) where
-  pub done_stays : f ≡ Stays → o' ≡ sets o q (bytes_at s p z) → o' ≡ copied_entry s p z (fated f) o q
-  done_stays e h = rw e h
-
-  pub done_text : f ≡ Text → o' ≡ sets o q (bytes_at s p z) → o' ≡ copied_entry s p z (fated f) o q
-  done_text e h = rw e h
-
-  pub done_sheet : f ≡ Sheet → o' ≡ sets o q (bytes_at s p z) → o' ≡ copied_entry s p z (fated f) o q
-  done_sheet e h = rw e h
-
-pub ruleset entry_laws = (room_stays, room_text, room_sheet, done_stays, done_text, done_sheet)
-
--- ---- all
 entry_keeps : (s : List ℕ) → Keeps (copied_entry s)
-entry_keeps s p z entries.stays o q = length-sets o q (bytes_at s p z)
-entry_keeps s p z entries.goes o q = refl
-entry_keeps s p z entries.table o q = refl
-entry_keeps s p z entries.text o q = length-sets o q (bytes_at s p z)
-entry_keeps s p z entries.sheet o q = length-sets o q (bytes_at s p z)
+entry_keeps s p z Stays o q = length-sets o q (bytes_at s p z)
+entry_keeps s p z Goes o q = refl
+entry_keeps s p z Table o q = refl
+entry_keeps s p z Text o q = length-sets o q (bytes_at s p z)
+entry_keeps s p z Sheet o q = length-sets o q (bytes_at s p z)
+
+pub copied_room : (n z : ℕ) (f : Fate) → size_for 0 z f ≤ size_for n z f
+copied_room n z Stays = omega arith
+copied_room n z Goes = omega arith
+copied_room n z Table = omega arith
+copied_room n z Text = omega arith
+copied_room n z Sheet = omega arith
 
 abbrev pub Lies : List ℕ → Entry → Type 0
 Lies s x = x.at + x.size ≤ length s
 
-pub copying_start : (s : List ℕ) (n : ℕ) (o : List ℕ) → (length s ≤ 16777216) × (n ≤ 16777216) × (sizes n (entries_of s) ≤ length o)
-    → Editing s (Lies s) (copied_entry s) n o (record { at = 0; level = 0; kind = 0; gone = false }) 0 o
-copying_start s n o h = editing_start s (Lies s) (copied_entry s) n o (entry_keeps s) h.0 h.1 (entries_lie s start) h.2
+pub copying_start : (s : List ℕ) (n : ℕ) (l : List Entry) (o : List ℕ) → l ≡ entries_of s → sizes n (entries_of s) ≤ length o → Editing (Lies s) (copied_entry s) n (entries_of s) o l 0 o
+copying_start s n l o i h = editing_start (Lies s) (copied_entry s) n l (entries_of s) o i (entry_keeps s) (entries_lie s start) h

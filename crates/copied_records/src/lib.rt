@@ -2,66 +2,34 @@
 #![tactic(auto)]
 
 ghost use Rattle.std.specs.Prelude.{◌≡◌, ◌+◌, ◌≤◌, length};
-ghost use Rattle.new_places.specs.Parts.{fated};
-ghost use Rattle.new_stream.specs.Entries.{entries_of};
-ghost use Rattle.copied_records.specs.Copied.{copied_entry, size_for, sizes, edited};
+ghost use Rattle.new_stream.specs.Entries.{size_for, entries_of};
+ghost use Rattle.new_places.specs.Places.{sizes};
+ghost use Rattle.copied_records.specs.Copied.{copied_entry, edited};
 
-use new_places::{Fate, Spot, Step};
+use new_places::Entries;
+use new_stream::{Entry, Fate};
 
-fn copy_entry(
-    s: &[u8],
-    from: usize,
-    size: usize,
-    fate: Fate,
-    table: usize,
-    out: &mut [u8],
-    at: usize,
-)
-    requires { (from + size ≤ length s.now) × (at + size_for table size (fated fate) ≤ length out.old) }
-    ensures { out.new ≡ copied_entry s.now from size (fated fate) out.old at }
+fn copy_entry(s: &[u8], x: Entry, out: &mut [u8], place: usize)
+    requires { (x.at + x.size ≤ length s.now) × (place + size_for 0 x.size x.fate ≤ length out.old) }
+    ensures { out.new ≡ copied_entry s.now x.at x.size x.fate out.old place }
 {
-    match fate {
-        Fate::Stays => {
-            byte_numbers::copy(s, from, size, out, at);
+    match x.fate {
+        Fate::Stays | Fate::Text | Fate::Sheet => {
+            byte_numbers::copy(s, x.at, x.size, out, place);
         }
-        Fate::Goes => {}
-        Fate::Table => {}
-        Fate::Text => {
-            byte_numbers::copy(s, from, size, out, at);
-        }
-        Fate::Sheet => {
-            byte_numbers::copy(s, from, size, out, at);
-        }
+        Fate::Goes | Fate::Table => {}
     }
 }
 
 // All that stays, each record at its new place.
+#[tactic(auto, using(crate::proofs::Editing::edit_laws))]
 pub fn copy_kept(s: &[u8], out: &mut [u8], table: usize)
     requires { (length s.now ≤ 16777216) × (table ≤ 16777216) × (sizes table (entries_of s.now) ≤ length out.old) }
     ensures { out.new ≡ edited (copied_entry s.now) table (entries_of s.now) out.old 0 }
 {
-    let mut w = Spot {
-        at: 0,
-        level: 0,
-        kind: 0,
-        gone: false,
-    };
-    let mut q: usize = 0;
-    loop {
-        let at = w.at;
-        match new_places::step_at(s, w) {
-            Step::Record { size, fate, next } => {
-                copy_entry(s, at, size, fate, table, out, q);
-                q = q + new_places::size_of(size, fate, table);
-                w = next;
-            }
-            Step::Rest => {
-                byte_numbers::copy(s, at, s.len() - at, out, q);
-                return;
-            }
-            Step::End => {
-                return;
-            }
-        }
+    let mut place = 0;
+    for x in Entries::of(s) {
+        copy_entry(s, x, out, place);
+        place += x.new_size(table);
     }
 }

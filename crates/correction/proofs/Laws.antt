@@ -1,55 +1,48 @@
 -- The laws of a correction, with what a call gave as the proofs have it. Assumes nothing.
-use Prim.Native.Nat.{ℕ, zero, suc, ◌+◌, ◌-◌, ◌*◌, ◌^◌, ◌≤◌, ◌<◌}
+use Prim.Native.Nat.{ℕ, zero, suc, ◌+◌, ◌-◌, ◌*◌, ◌≤◌, ◌<◌}
 use mathlib.Core.Path.{◌≡◌, refl, sym, ap, ◌∙◌, subst}
 use mathlib.Core.List.{List, [], ◌∷◌, ◌++◌}
 use mathlib.Core.Bool.{Bool, true, false, ◌&&◌}
+use Rattle.std.specs.Prelude.{Option, Some, None, Result, Ok, Err}
+use Rattle.refusal.specs.declared.Refusal.{Refusal}
+use Rattle.refusal.specs.Refused.{refuse}
+use Rattle.sheet_agreement.specs.declared.SheetKind.{SheetKind}
+use Rattle.sheet_agreement.specs.declared.SheetKind.TheVariants.{Worksheet, Chart, Macro, Other}
 use mathlib.Core.Logic.{◌⊎◌, inl, inr}
 use native.Mathlib.Omega.{arith}
-use native.Mathlib.Nat.{mul-le-mul_right, mul-le-mul}
+use native.Mathlib.Nat.{suc-mul, mul-le-mul, mul-le-mul_right}
 use lib.ListN.{length}
 use lib.Dec.{ltb, leb, eqb}
 use borrow.Author.Tests.{eq-eqb, ne_eqb, eqb-true, eqb-false, leb-true, leb-false, ltb-true, ltb-false}
 use Rattle.steps.specs.Choice.{pick}
-use Rattle.steps.proofs.Choice.{pick_any, pick_by, pick_true, pick_false, pick_eq, pick_ne, pick_le, pick_nle, pick_lt, pick_nlt}
+use Rattle.steps.proofs.Choice.{pick_by, pick_true, pick_false, pick_lt, pick_nlt}
 use Rattle.steps.specs.Items.{nth}
 use Rattle.record.proofs.Laws.{whole}
 use Rattle.value.specs.declared.Field.{Field}
 use Rattle.value.specs.declared.Field.TheVariants.{NoField, Float, RkWord, TextIndex, TruthError, StoredResult}
 use Rattle.value.specs.Value.{width_of}
-use Rattle.cell.specs.declared.Shape.{Shape}
-use Rattle.cell.specs.declared.Shape.TheVariants.{BLANK, NUMBER, RK, LABELSST, BOOLERR, MULRK, MULBLANK, FORMULA, OTHER}
 use Rattle.cell.specs.declared.Cell.{Cell}
-use Rattle.cell.specs.Cells.{shape_of, field_of, part_of, start_of, row_at, first_at, sized, multiple, length_at, count_of, cell_from, cells_from, cells_of, cell_of}
-use Rattle.cell.proofs.Sizes.{sized_below, multiple_below}
+use Rattle.cell.specs.Cells.{shape_of, field_of, part_of, start_of, row_at, first_at, count_of, cell_from, cells_from, cells_of, cell_of}
+use Rattle.cell.proofs.Sizes.{count_lies}
 use Rattle.new_value.specs.declared.NewValue.{NewValue}
-use Rattle.new_value.specs.declared.Plan.{Plan}
-use Rattle.new_value.specs.declared.Plan.TheVariants as plan
-use Rattle.new_value.specs.declared.Answer.{Answer}
-use Rattle.new_value.specs.declared.Answer.TheVariants as answer
 use Rattle.new_value.specs.Change as change
 use Rattle.new_value.specs.Change.{plan_of, changed}
 use Rattle.sheet_agreement.specs.Agreement.{Sheet}
 use Rattle.globals.specs.declared.Globals.{Globals}
 use Rattle.globals.specs.Sheets.{sheets_of}
-use Rattle.workbook.specs.declared.Checked.{Checked}
-use Rattle.workbook.specs.declared.Checked.TheVariants.{Right, Wrong}
 use Rattle.workbook.specs.Check.{checked_of, on_checked}
 use Rattle.reading.specs.declared.Place.{Place}
 use Rattle.reading.specs.Cells.{place_at, listed_from}
 use Rattle.reading.specs.Reading.{start_by, listed_of}
-use Rattle.reading.specs.declared.Outside.{Outside}
-use Rattle.reading.specs.declared.Outside.TheVariants as outside
-use Rattle.reading.specs.declared.Scanned.{Scanned}
+use Rattle.reading.specs.declared.RecordCells.{RecordCells}
 use Rattle.reading.specs.declared.Scanned.TheVariants as scanned
 use Rattle.reading.specs.Scan.{scan_of, Past}
-use Rattle.reading.proofs.Scanning.{Row, Passed, Scan, scan_says, past_list}
+use Rattle.reading.proofs.Scanning.{Row, Scan, scan_says, past_list}
 use Rattle.listing.specs.declared.Sought.{Sought}
-use Rattle.listing.specs.declared.Sought.TheVariants as sought
 use Rattle.listing.specs.Parts.{found_sheet}
 use Rattle.correction.specs.declared.Target.{Target}
 use Rattle.correction.specs.declared.Target.TheVariants as target
 use Rattle.correction.specs.declared.Aim.{Aim}
-use Rattle.correction.specs.declared.Aim.TheVariants as aim
 use Rattle.correction.specs.Correction.{Correction, refuses, writes, cells_at, on_plan, on_cells, no_sheet, correction_in, correction_of, answer_of, stream_after}
 use Rattle.correction.specs.Parts.{joined, target_of, with_one, in_row, field_of_cell, met_of, on_target, aim_in, TargetWithin, AimWithin}
 
@@ -110,9 +103,9 @@ module _ (here first n row column : ℕ) where
     where
       go : (a b c : Bool) → eqb here row ≡ a → leb first column ≡ b → ltb column (first + n) ≡ c → pick a (pick b (pick c true false) false) false ≡ true → (here ≡ row) × (first ≤ column) × (column < first + n)
       go true true true i j k e = (eqb-true here row i, leb-true first column j, ltb-true column (first + n) k)
-      go true true false i j k e = absurd (let z : ◌≡◌ {A = ℕ} 0 1 = cc in omega arith)
-      go true false c i j k e = absurd (let z : ◌≡◌ {A = ℕ} 0 1 = cc in omega arith)
-      go false b c i j k e = absurd (let z : ◌≡◌ {A = ℕ} 0 1 = cc in omega arith)
+      go true true false i j k e = cc
+      go true false c i j k e = cc
+      go false b c i j k e = cc
 
 -- ---- what was found, with one cell more
 join_one : (found : Target) (c : Cell) (l : List Cell) → joined found (c ∷ l) ≡ joined (with_one found (target.One c.kind c.field)) l
@@ -121,91 +114,68 @@ join_one target.None c (d ∷ l) = refl
 join_one (target.One k f) c l = refl
 join_one target.Many c l = refl
 
-module _ (s : List ℕ) (at id here first n next row column : ℕ) (w : Row s at id here first n next) where
+module _ (s : List ℕ) (at : ℕ) (rec : RecordCells) (row column : ℕ) (w : Row s at rec) where
   abbrev field : Field
-  field = field_of (shape_of id)
+  field = field_of (shape_of rec.id)
 
   abbrev after : List Cell
-  after = cells_at row column (listed_from s (place_at next 0))
+  after = cells_at row column (listed_from s (place_at rec.next 0))
 
-  of_record : cells_at row column (listed_from s (place_at at 0)) ≡ cells_at row column (cells_from field s (row_at s at) (first_at s at) (at + 8) (count_of (shape_of id) s at w.size) ++ listed_from s (place_at next 0))
+  of_record : cells_at row column (listed_from s (place_at at 0)) ≡ cells_at row column (cells_from field s (row_at s at) (first_at s at) (at + 8) (count_of (shape_of rec.id) s at w.size) ++ listed_from s (place_at rec.next 0))
   unfolding cells_of
   of_record = ap (cells_at row column) w.list
 
-  no_address : in_row here first n row column ≡ false → (here ≡ row → ⊥) ⊎ ((column < first) ⊎ (first + n ≤ column))
+  no_address : in_row rec.row rec.first rec.count row column ≡ false → (rec.row ≡ row → ⊥) ⊎ ((column < rec.first) ⊎ (rec.first + rec.count ≤ column))
   unfolding in_row pick
-  no_address h = go (eqb here row) (leb first column) (ltb column (first + n)) refl refl refl h
+  no_address h = go (eqb rec.row row) (leb rec.first column) (ltb column (rec.first + rec.count)) refl refl refl h
     where
-      go : (a b c : Bool) → eqb here row ≡ a → leb first column ≡ b → ltb column (first + n) ≡ c → pick a (pick b (pick c true false) false) false ≡ false → (here ≡ row → ⊥) ⊎ ((column < first) ⊎ (first + n ≤ column))
-      go true true true i j k e = absurd (let z : ◌≡◌ {A = ℕ} 0 1 = cc in omega arith)
-      go true true false i j k e = inr (inr (ltb-false column (first + n) k))
-      go true false c i j k e = inr (inl (leb-false first column j))
-      go false b c i j k e = inl (eqb-false here row i)
+      go : (a b c : Bool) → eqb rec.row row ≡ a → leb rec.first column ≡ b → ltb column (rec.first + rec.count) ≡ c → pick a (pick b (pick c true false) false) false ≡ false → (rec.row ≡ row → ⊥) ⊎ ((column < rec.first) ⊎ (rec.first + rec.count ≤ column))
+      go true true true i j k e = cc
+      go true true false i j k e = inr (inr (ltb-false column (rec.first + rec.count) k))
+      go true false c i j k e = inr (inl (leb-false rec.first column j))
+      go false b c i j k e = inl (eqb-false rec.row row i)
 
   abbrev cells : List Cell
-  cells = cells_from field s (row_at s at) (first_at s at) (at + 8) (count_of (shape_of id) s at w.size)
+  cells = cells_from field s (row_at s at) (first_at s at) (at + 8) (count_of (shape_of rec.id) s at w.size)
 
-  missed : (here ≡ row → ⊥) ⊎ ((column < first) ⊎ (first + n ≤ column)) → cells_at row column (cells ++ listed_from s (place_at next 0)) ≡ after
-  missed (inl h) = row_else row column field s (row_at s at) (listed_from s (place_at next 0)) _ _ _ (λ e. h (w.row_is ∙ e))
-  missed (inr (inl h)) = let f = w.first_is in columns_else row column field s (row_at s at) (listed_from s (place_at next 0)) (count_of (shape_of id) s at w.size) (first_at s at) (at + 8) (inl (omega arith))
-  missed (inr (inr h)) = let f = w.first_is in let c = w.count in columns_else row column field s (row_at s at) (listed_from s (place_at next 0)) (count_of (shape_of id) s at w.size) (first_at s at) (at + 8) (inr (omega arith))
+  missed : (rec.row ≡ row → ⊥) ⊎ ((column < rec.first) ⊎ (rec.first + rec.count ≤ column)) → cells_at row column (cells ++ listed_from s (place_at rec.next 0)) ≡ after
+  missed (inl h) = row_else row column field s (row_at s at) (listed_from s (place_at rec.next 0)) _ _ _ (λ e. h (w.row_is ∙ e))
+  missed (inr (inl h)) = let f = w.first_is in columns_else row column field s (row_at s at) (listed_from s (place_at rec.next 0)) (count_of (shape_of rec.id) s at w.size) (first_at s at) (at + 8) (inl (omega arith))
+  missed (inr (inr h)) = let f = w.first_is in let c = w.count in columns_else row column field s (row_at s at) (listed_from s (place_at rec.next 0)) (count_of (shape_of rec.id) s at w.size) (first_at s at) (at + 8) (inr (omega arith))
 
   -- the record has the address, or not
-  pub hit_below : in_row here first n row column ≡ true → column - first < count_of (shape_of id) s at w.size
-  hit_below h = let a = row_holds here first n row column h in let c = w.count in omega arith
+  pub hit_below : in_row rec.row rec.first rec.count row column ≡ true → column - rec.first < count_of (shape_of rec.id) s at w.size
+  hit_below h = let a = row_holds rec.row rec.first rec.count row column h in let c = w.count in omega arith
 
-  pub hit_row : in_row here first n row column ≡ true → cells_at row column (listed_from s (place_at at 0)) ≡ cell_of s field at (column - first) ∷ after
+  pub hit_row : in_row rec.row rec.first rec.count row column ≡ true → cells_at row column (listed_from s (place_at at 0)) ≡ cell_of s field at (column - rec.first) ∷ after
   unfolding cell_of
   hit_row h =
-      let a = row_holds here first n row column h in
+      let a = row_holds rec.row rec.first rec.count row column h in
       let f = w.first_is in
       let c = w.count in
-      let e : column ≡ first_at s at + (column - first) = omega arith in
+      let e : column ≡ first_at s at + (column - rec.first) = omega arith in
       of_record
-      ∙ cell_met row column field s (row_at s at) (listed_from s (place_at next 0)) (count_of (shape_of id) s at w.size) (first_at s at) (at + 8) (column - first) (sym w.row_is ∙ a.0) (omega arith) (omega arith)
-      ∙ ap (λ (x : ℕ). cell_from field s (row_at s at) x (at + 8 + (column - first) * part_of field) ∷ after) e
+      ∙ cell_met row column field s (row_at s at) (listed_from s (place_at rec.next 0)) (count_of (shape_of rec.id) s at w.size) (first_at s at) (at + 8) (column - rec.first) (sym w.row_is ∙ a.0) (omega arith) (omega arith)
+      ∙ ap (λ (x : ℕ). cell_from field s (row_at s at) x (at + 8 + (column - rec.first) * part_of field) ∷ after) e
 
-  pub miss_row : in_row here first n row column ≡ false → cells_at row column (listed_from s (place_at at 0)) ≡ after
+  pub miss_row : in_row rec.row rec.first rec.count row column ≡ false → cells_at row column (listed_from s (place_at at 0)) ≡ after
   miss_row h = of_record ∙ missed (no_address h)
 
-  met_by : (found : Target) (b : Bool) → in_row here first n row column ≡ b → joined found (cells_at row column (cells ++ listed_from s (place_at next 0))) ≡ joined (pick b (with_one found (field_of_cell id at (column - first))) found) after
+  met_by : (found : Target) (b : Bool) → in_row rec.row rec.first rec.count row column ≡ b → joined found (cells_at row column (cells ++ listed_from s (place_at rec.next 0))) ≡ joined (pick b (with_one found (field_of_cell rec.id at (column - rec.first))) found) after
   unfolding pick field_of_cell cell_from
   met_by found true h =
-      let a = row_holds here first n row column h in
+      let a = row_holds rec.row rec.first rec.count row column h in
       let f = w.first_is in
       let c = w.count in
-      ap (joined found) (cell_met row column field s (row_at s at) (listed_from s (place_at next 0)) (count_of (shape_of id) s at w.size) (first_at s at) (at + 8) (column - first) (sym w.row_is ∙ a.0) (omega arith) (omega arith))
-      ∙ join_one found (cell_from field s (row_at s at) column (at + 8 + (column - first) * part_of field)) after
+      ap (joined found) (cell_met row column field s (row_at s at) (listed_from s (place_at rec.next 0)) (count_of (shape_of rec.id) s at w.size) (first_at s at) (at + 8) (column - rec.first) (sym w.row_is ∙ a.0) (omega arith) (omega arith))
+      ∙ join_one found (cell_from field s (row_at s at) column (at + 8 + (column - rec.first) * part_of field)) after
   met_by found false h = ap (joined found) (missed (no_address h))
 
-  met_row : (found r : Target) → r ≡ met_of found id at here first n row column → joined found (cells_at row column (listed_from s (place_at at 0))) ≡ joined r after
+  met_row : (found r : Target) → r ≡ met_of found rec.id at rec.row rec.first rec.count row column → joined found (cells_at row column (listed_from s (place_at at 0))) ≡ joined r after
   unfolding met_of
-  met_row found r e = ap (joined found) of_record ∙ met_by found (in_row here first n row column) refl ∙ ap (λ (t : Target). joined t after) (sym e)
+  met_row found r e = ap (joined found) of_record ∙ met_by found (in_row rec.row rec.first rec.count row column) refl ∙ ap (λ (t : Target). joined t after) (sym e)
 
 -- ---- a cell's part lies within its record, and its value field within its part
-single_room : (z e k : ℕ) → k < sized z e 1 → (k ≡ 0) × (z ≡ e)
-single_room z e k l = let m = sized_below z e 1 k l in omega arith
-
-multiple_room : (s : List ℕ) (at z part k : ℕ) → k < multiple s at z part → 4 + suc k * part ≤ z
-multiple_room s at z part k l =
-    let m = multiple_below s at z part (multiple s at z part) k refl l in
-    let p : suc k * part ≤ multiple s at z part * part = mul-le-mul_right part l in
-    omega arith
-
-part_room : (h : Shape) (s : List ℕ) (at z k : ℕ) → k < count_of h s at z → 4 + suc k * part_of (field_of h) ≤ z
-part_room BLANK s at z k l = let m = single_room z 6 k l in omega arith
-part_room NUMBER s at z k l = let m = single_room z 14 k l in omega arith
-part_room RK s at z k l = let m = single_room z 10 k l in omega arith
-part_room LABELSST s at z k l = let m = single_room z 10 k l in omega arith
-part_room BOOLERR s at z k l = let m = single_room z 8 k l in omega arith
-part_room MULRK s at z k l = multiple_room s at z 6 k l
-part_room MULBLANK s at z k l = multiple_room s at z 2 k l
-part_room FORMULA s at z k l =
-    pick_by (λ (n : ℕ). k < n → 4 + suc k * 18 ≤ z) (leb (22 + length_at s (at + 8)) z)
-    (λ h i. let m = leb-true (22 + length_at s (at + 8)) z h in omega arith)
-    (λ _ i. absurd (omega arith)) l
-part_room OTHER s at z k l = absurd (omega arith)
-
 field_room : (f : Field) → start_of f + width_of f ≤ part_of f
 field_room NoField = omega arith
 field_room Float = omega arith
@@ -219,22 +189,25 @@ one_within len target.None one p q = q
 one_within len (target.One k f) one p q = tt
 one_within len target.Many one p q = tt
 
-module _ (s : List ℕ) (at id here first n next row column : ℕ) (w : Row s at id here first n next) where
-  met_field : (here ≡ row) × (first ≤ column) × (column < first + n) → TargetWithin (length s) (field_of_cell id at (column - first))
+module _ (s : List ℕ) (at : ℕ) (rec : RecordCells) (row column : ℕ) (w : Row s at rec) where
+  met_field : (rec.row ≡ row) × (rec.first ≤ column) × (column < rec.first + rec.count) → TargetWithin (length s) (field_of_cell rec.id at (column - rec.first))
   unfolding field_of_cell
   met_field a =
       let h = w.header in
-      let x = whole s at id w.size next h in
+      let x = whole s at rec.id w.size rec.next h in
       let c = w.count in
-      let p = part_room (shape_of id) s at w.size (column - first) (omega arith) in
-      let q = field_room (field_of (shape_of id)) in
+      let k = column - rec.first in
+      let part = part_of (field_of (shape_of rec.id)) in
+      let next : suc k * part ≤ count_of (shape_of rec.id) s at w.size * part = mul-le-mul_right part (omega arith) in
+      let p : 4 + k * part + part ≤ w.size = omega (arith, suc-mul k part, (count_lies s at w.size k (shape_of rec.id) (omega arith)).0) in
+      let q = field_room (field_of (shape_of rec.id)) in
       omega arith
 
-  met_in : (found : Target) → TargetWithin (length s) found → TargetWithin (length s) (met_of found id at here first n row column)
+  met_in : (found : Target) → TargetWithin (length s) found → TargetWithin (length s) (met_of found rec.id at rec.row rec.first rec.count row column)
   unfolding met_of
   met_in found i =
-      pick_by (TargetWithin (length s)) (in_row here first n row column)
-      (λ h. one_within (length s) found (field_of_cell id at (column - first)) i (met_field (row_holds here first n row column h)))
+      pick_by (TargetWithin (length s)) (in_row rec.row rec.first rec.count row column)
+      (λ h. one_within (length s) found (field_of_cell rec.id at (column - rec.first)) i (met_field (row_holds rec.row rec.first rec.count row column h)))
       (λ _. i)
 
 -- ---- the scan for an address: what was found so far, and the rest of the list
@@ -247,50 +220,45 @@ joined_none target.None = refl
 joined_none (target.One k f) = refl
 joined_none target.Many = refl
 
-module _ (s : List ℕ) (from row column at level : ℕ) (found : Target) (inv : Finding s from row column at level found) (r : Scanned) (is : r ≡ scan_of s at level) where
-  module _ (id here first n next : ℕ) (h : r ≡ scanned.Cells id here first n next) where
-    scanned_row : (level ≡ 0) × Row s at id here first n next
-    scanned_row = subst (Scan s at level) (sym is ∙ h) (scan_says s at level)
+pub found_all : (s : List ℕ) (from row column at level : ℕ) (found : Target) → Finding s from row column at level found → scan_of s at level ≡ None → target_of (cells_at row column (listed_from s (place_at from 0))) ≡ found
+unfolding cells_at
+found_all s from row column at level found inv h =
+    let e : listed_from s (place_at at level) ≡ [] = subst (Scan s at level) h (scan_says s at level) in
+    inv.0 ∙ ap (λ (l : List Cell). joined found (cells_at row column l)) e ∙ joined_none found
 
-    pub row_less : length s - next < length s - at
-    row_less = let x = scanned_row.1 in omega arith
+module _ (s : List ℕ) (at level : ℕ) where
+  module _ (rec : RecordCells) (h : scan_of s at level ≡ Some (scanned.Cells rec)) where
+    scanned_row : (level ≡ 0) × Row s at rec
+    scanned_row = subst (Scan s at level) h (scan_says s at level)
 
-    pub row_few : n ≤ 256
+    pub row_less : length s - rec.next < length s - at
+    row_less = let a = scanned_row.1.ahead in let w = scanned_row.1.within in omega arith
+
+    pub row_few : rec.count ≤ 256
     row_few = scanned_row.1.few
 
     pub row_low : length s ≤ 16777216 → at ≤ 16777216
-    row_low l = let x = scanned_row.1 in omega arith
+    row_low l = let a = scanned_row.1.ahead in let w = scanned_row.1.within in omega arith
 
-    pub row_again : (t : Target) → t ≡ met_of found id at here first n row column → Finding s from row column next level t
-    row_again t e =
+    pub row_again : (from row column : ℕ) (found t : Target) → Finding s from row column at level found → t ≡ met_of found rec.id at rec.row rec.first rec.count row column → Finding s from row column rec.next level t
+    row_again from row column found t inv e =
         let l = scanned_row.0 in
         let w = scanned_row.1 in (
           inv.0 ∙ ap (λ (m : ℕ). joined found (cells_at row column (listed_from s (place_at at m)))) l
-              ∙ met_row s at id here first n next row column w found t e
-              ∙ ap (λ (m : ℕ). joined t (cells_at row column (listed_from s (place_at next m)))) (sym l),
-          subst (TargetWithin (length s)) (sym e) (met_in s at id here first n next row column w found inv.1),
+              ∙ met_row s at rec row column w found t e
+              ∙ ap (λ (m : ℕ). joined t (cells_at row column (listed_from s (place_at rec.next m)))) (sym l),
+          subst (TargetWithin (length s)) (sym e) (met_in s at rec row column w found inv.1),
         )
 
-  module _ (o : Outside) (h : r ≡ scanned.None o) where
-    passed : Passed s at level o
-    passed = subst (Scan s at level) (sym is ∙ h) (scan_says s at level)
+  module _ (v : Place) (h : scan_of s at level ≡ Some (scanned.Past v)) (d : ℕ) (p : Past s v.level v.at d) where
+    passed : (listed_from s (place_at at level) ≡ listed_from s (place_at v.at v.level)) × (at < v.at) × (v.at ≤ length s)
+    passed = subst (Scan s at level) h (scan_says s at level)
 
-    module _ (e m : ℕ) (i : o ≡ outside.Next e m) where
-      passed_next : (listed_from s (place_at at level) ≡ listed_from s (place_at e m)) × (at < e) × (e ≤ length s)
-      passed_next = subst (Passed s at level) i passed
+    pub next_less : length s - d < length s - at
+    next_less = let x = passed in let y = p.near in omega arith
 
-      module _ (d : ℕ) (p : Past s m e d) where
-        pub next_less : length s - d < length s - at
-        next_less = let x = passed_next in let y = p.near in omega arith
-
-        pub next_again : Finding s from row column d m found
-        next_again = (inv.0 ∙ ap (λ (l : List Cell). joined found (cells_at row column l)) (passed_next.0 ∙ past_list p), inv.1)
-
-    pub found_all : o ≡ outside.End → found ≡ target_of (cells_at row column (listed_from s (place_at from 0)))
-    unfolding cells_at
-    found_all i =
-        let e : listed_from s (place_at at level) ≡ [] = subst (Passed s at level) i passed in
-        sym (inv.0 ∙ ap (λ (l : List Cell). joined found (cells_at row column l)) e ∙ joined_none found)
+    pub next_again : (from row column : ℕ) (found : Target) → Finding s from row column at level found → Finding s from row column d v.level found
+    next_again from row column found inv = (inv.0 ∙ ap (λ (l : List Cell). joined found (cells_at row column l)) (passed.0 ∙ past_list p), inv.1)
 
 pub find_start : (s : List ℕ) (from row column : ℕ) → Finding s from row column from 0 target.None
 find_start s from row column = (refl, tt)
@@ -306,55 +274,55 @@ pub sheet_missing : (sheets n : ℕ) {m : ℕ} → m ≡ n → sheets ≤ m → 
 unfolding no_sheet
 sheet_missing sheets n i l = pick_nlt _ _ _ _ _ (rw i at l) refl
 
-pub start_place : (len p k : ℕ) → place_at (start_by len p k).at 0 ≡ start_by len p k
-unfolding start_by place_at
-start_place len p k = pick_any (λ (x : Place). place_at x.at 0 ≡ x) (eqb k 1) refl refl
+pub start_place : (len p : ℕ) (k : SheetKind) → place_at (start_by len p k).at 0 ≡ start_by len p k
+unfolding start_by place_at pick
+start_place len p Worksheet = refl
+start_place len p Chart = refl
+start_place len p Macro = refl
+start_place len p Other = refl
 
 module _ (s : List ℕ) (u sheets n row column : ℕ) where
-  abbrev to_aim : Sought → Aim
-  to_aim (sought.Sheet o p k) = on_target u (target_of (cells_at row column (listed_from s (start_by (length s) p k))))
-  to_aim sought.Absent = aim.Refused (no_sheet sheets n) 0
+  abbrev to_aim : Option Sought → Result Aim Refusal
+  to_aim (Some x) = on_target u (target_of (cells_at row column (listed_from s (start_by (length s) x.position x.kind))))
+  to_aim None = refuse (no_sheet sheets n) 0
 
-  to_aim_lem : (l : List Sheet) (i : ℕ) → nth l i (λ (x : Sheet). to_aim (found_sheet x)) (aim.Refused (no_sheet sheets n) 0) ≡ to_aim (nth l i found_sheet sought.Absent)
+  to_aim_lem : (l : List Sheet) (i : ℕ) → nth l i (λ (x : Sheet). to_aim (found_sheet x)) (refuse (no_sheet sheets n) 0) ≡ to_aim (nth l i found_sheet None)
   unfolding nth
   to_aim_lem [] i = refl
   to_aim_lem (x ∷ l) zero = refl
   to_aim_lem (x ∷ l) (suc i) = to_aim_lem l i
 
-  aimed : (q x : Sought) → q ≡ nth (sheets_of s) n found_sheet sought.Absent → q ≡ x → to_aim x ≡ aim_in s u sheets n row column
+  aimed : (q : Option Sought) → nth (sheets_of s) n found_sheet None ≡ q → aim_in s u sheets n row column ≡ to_aim q
   unfolding aim_in
-  aimed q x i j = ap to_aim (sym j ∙ i) ∙ sym (to_aim_lem (sheets_of s) n)
+  aimed q h = to_aim_lem (sheets_of s) n ∙ ap to_aim h
 
-  module _ (q : Sought) (i : q ≡ nth (sheets_of s) n found_sheet sought.Absent) where
-    pub aim_absent : {m : ℕ} → q ≡ sought.Absent → m ≡ no_sheet sheets n → aim.Refused m 0 ≡ aim_in s u sheets n row column
-    aim_absent j k = ap (λ (x : ℕ). aim.Refused x 0) k ∙ aimed q sought.Absent i j
+  pub aim_absent : nth (sheets_of s) n found_sheet None ≡ None → aim_in s u sheets n row column ≡ refuse (no_sheet sheets n) 0
+  aim_absent h = aimed None h
 
-    pub aim_there : (o p k : ℕ) (v : Place) (t : Target) (a : Aim) → q ≡ sought.Sheet o p k → v ≡ start_by (length s) p k → t ≡ target_of (cells_at row column (listed_from s (place_at v.at 0))) → a ≡ on_target u t → a ≡ aim_in s u sheets n row column
-    aim_there o p k v t a j e f b =
-        b ∙ ap (on_target u) (f ∙ ap (λ (x : Place). target_of (cells_at row column (listed_from s x))) (ap (λ (x : Place). place_at x.at 0) e ∙ start_place (length s) p k)) ∙ aimed q (sought.Sheet o p k) i j
+  pub aim_there : (x : Sought) (t : Target) → nth (sheets_of s) n found_sheet None ≡ Some x → t ≡ target_of (cells_at row column (listed_from s (place_at (start_by (length s) x.position x.kind).at 0))) → aim_in s u sheets n row column ≡ on_target u t
+  aim_there x t h e =
+      aimed (Some x) h
+      ∙ ap (on_target u) (sym (e ∙ ap (λ (p : Place). target_of (cells_at row column (listed_from s p))) (start_place (length s) x.position x.kind)))
 
-pub aim_within : (len u : ℕ) (t : Target) (a : Aim) → TargetWithin len t → a ≡ on_target u t → AimWithin len a
-aim_within len u target.None a w e = subst (AimWithin len) (sym e) tt
-aim_within len u (target.One k f) a w e = subst (AimWithin len) (sym e) w
-aim_within len u target.Many a w e = subst (AimWithin len) (sym e) tt
-
-pub by_target : (u : ℕ) (t x : Target) (y : Aim) → t ≡ x → y ≡ on_target u x → y ≡ on_target u t
-by_target u t x y e h = h ∙ ap (on_target u) (sym e)
+pub aim_within : (len u : ℕ) (t : Target) → TargetWithin len t → AimWithin len (on_target u t)
+aim_within len u target.None w = tt
+aim_within len u (target.One k f) w = w
+aim_within len u target.Many w = tt
 
 pub ruleset aim_laws = (aim_absent, aim_there, aim_within)
 
 -- ---- from the aim to the correction
-abbrev planned : Field → ℕ → Plan → Correction
-planned k f (plan.Put n) = writes k f n
-planned k f (plan.Refused n o) = refuses n o
+abbrev planned : Field → ℕ → Result ℕ Refusal → Correction
+planned k f (Ok n) = writes k f n
+planned k f (Err e) = refuses e.number e.offset
 
-abbrev on_aim : NewValue → Aim → Correction
-on_aim v (aim.Refused n o) = refuses n o
-on_aim v (aim.At k f u) = planned k f (plan_of k v u)
+abbrev on_aim : NewValue → Result Aim Refusal → Correction
+on_aim v (Err e) = refuses e.number e.offset
+on_aim v (Ok a) = planned a.kind a.field (plan_of a.kind v a.unique)
 
-plan_is : (c : Cell) (p : Plan) → on_plan c p ≡ planned c.kind c.field p
-plan_is c (plan.Put n) = refl
-plan_is c (plan.Refused n o) = refl
+plan_is : (c : Cell) (p : Result ℕ Refusal) → on_plan c p ≡ planned c.kind c.field p
+plan_is c (Ok n) = refl
+plan_is c (Err e) = refl
 
 cells_aim : (v : NewValue) (u : ℕ) (l : List Cell) → on_cells v u l ≡ on_aim v (on_target u (target_of l))
 cells_aim v u [] = refl
@@ -362,68 +330,51 @@ cells_aim v u (c ∷ []) = plan_is c (plan_of c.kind v u)
 cells_aim v u (c ∷ d ∷ l) = refl
 
 module _ (s : List ℕ) (u sheets n row column : ℕ) (v : NewValue) where
-  sheets_aim : (l : List Sheet) (i : ℕ) → nth l i (λ (x : Sheet). on_cells v u (cells_at row column (listed_of s x))) (refuses (no_sheet sheets n) 0) ≡ on_aim v (nth l i (λ (x : Sheet). on_target u (target_of (cells_at row column (listed_of s x)))) (aim.Refused (no_sheet sheets n) 0))
+  sheets_aim : (l : List Sheet) (i : ℕ) → nth l i (λ (x : Sheet). on_cells v u (cells_at row column (listed_of s x))) (refuses (no_sheet sheets n) 0) ≡ on_aim v (nth l i (λ (x : Sheet). on_target u (target_of (cells_at row column (listed_of s x)))) (refuse (no_sheet sheets n) 0))
   unfolding nth
   sheets_aim [] i = refl
   sheets_aim (x ∷ l) zero = cells_aim v u (cells_at row column (listed_of s x))
   sheets_aim (x ∷ l) (suc i) = sheets_aim l i
 
-  correction_aim : correction_in s u sheets n row column v ≡ on_aim v (aim_in s u sheets n row column)
+  correction_aim : (a : Result Aim Refusal) → aim_in s u sheets n row column ≡ a → correction_in s u sheets n row column v ≡ on_aim v a
   unfolding aim_in
-  correction_aim = sheets_aim (sheets_of s) n
+  correction_aim a h = sheets_aim (sheets_of s) n ∙ ap (on_aim v) h
 
-  module _ (a : Aim) (is : a ≡ aim_in s u sheets n row column) where
-    by_aim : (x : Aim) → a ≡ x → on_aim v x ≡ correction_in s u sheets n row column v
-    by_aim x h = ap (on_aim v) (sym h ∙ is) ∙ sym correction_aim
+  module _ (e : Refusal) (h : aim_in s u sheets n row column ≡ Err e) where
+    pub kept_answer : answer_of (correction_in s u sheets n row column v) ≡ Err e
+    kept_answer = ap answer_of (correction_aim _ h)
 
-    pub kept_answer : (m o : ℕ) → a ≡ aim.Refused m o → answer.Refused m o ≡ answer_of (correction_in s u sheets n row column v)
-    kept_answer m o h = ap answer_of (by_aim _ h)
+    pub kept_stream : stream_after s (correction_in s u sheets n row column v) ≡ s
+    kept_stream = ap (stream_after s) (correction_aim _ h)
 
-    pub kept_stream : (m o : ℕ) → a ≡ aim.Refused m o → s ≡ stream_after s (correction_in s u sheets n row column v)
-    kept_stream m o h = ap (stream_after s) (by_aim _ h)
+  module _ (a : Aim) (h : aim_in s u sheets n row column ≡ Ok a) where
+    plan_answer : (p : Result ℕ Refusal) → answer_of (planned a.kind a.field p) ≡ change.answer_of p
+    plan_answer (Ok m) = refl
+    plan_answer (Err e) = refl
 
-    module _ (k : Field) (f w : ℕ) (h : a ≡ aim.At k f w) where
-      plan_answer : (p : Plan) → change.answer_of p ≡ answer_of (planned k f p)
-      plan_answer (plan.Put m) = refl
-      plan_answer (plan.Refused m o) = refl
+    plan_stream : (p : Result ℕ Refusal) → stream_after s (planned a.kind a.field p) ≡ changed s a.kind a.field p
+    plan_stream (Ok m) = refl
+    plan_stream (Err e) = refl
 
-      plan_stream : (p : Plan) → changed s k f p ≡ stream_after s (planned k f p)
-      plan_stream (plan.Put m) = refl
-      plan_stream (plan.Refused m o) = refl
+    pub written_answer : answer_of (correction_in s u sheets n row column v) ≡ change.answer_of (plan_of a.kind v a.unique)
+    written_answer = ap answer_of (correction_aim _ h) ∙ plan_answer (plan_of a.kind v a.unique)
 
-      pub written_answer : (r : Answer) → r ≡ change.answer_of (plan_of k v w) → r ≡ answer_of (correction_in s u sheets n row column v)
-      written_answer r e = e ∙ plan_answer (plan_of k v w) ∙ ap answer_of (by_aim _ h)
+    pub written_stream : stream_after s (correction_in s u sheets n row column v) ≡ changed s a.kind a.field (plan_of a.kind v a.unique)
+    written_stream = ap (stream_after s) (correction_aim _ h) ∙ plan_stream (plan_of a.kind v a.unique)
 
-      pub written_stream : (x : List ℕ) → x ≡ changed s k f (plan_of k v w) → x ≡ stream_after s (correction_in s u sheets n row column v)
-      written_stream x e = e ∙ plan_stream (plan_of k v w) ∙ ap (stream_after s) (by_aim _ h)
-
-pub field_in : (len : ℕ) (a : Aim) (k : Field) (f u : ℕ) → AimWithin len a → a ≡ aim.At k f u → f + width_of k ≤ len
-field_in len a k f u w e = let x : AimWithin len (aim.At k f u) = subst (AimWithin len) e w in x
+pub ruleset correct_laws = (kept_answer, kept_stream, written_answer, written_stream)
 
 -- ---- after the check
-module _ (s : List ℕ) (lent sheets n row column : ℕ) (v : NewValue) {r : Checked} (is : r ≡ checked_of s lent) where
-  abbrev by : Checked → Correction
-  by x = on_checked refuses (λ (g : Globals). correction_in s g.unique sheets n row column v) x
-
-  pub wrong_answer : (m o : ℕ) → r ≡ Wrong m o → answer.Refused m o ≡ answer_of (correction_of s lent sheets n row column v)
+module _ (s : List ℕ) (lent sheets n row column : ℕ) (v : NewValue) where
+  pub wrong_checked : (e : Refusal) → checked_of s lent ≡ Err e → correction_of s lent sheets n row column v ≡ refuses e.number e.offset
   unfolding correction_of
-  wrong_answer m o h = ap (λ (x : Checked). answer_of (by x)) (sym h ∙ is)
+  wrong_checked e h = ap (on_checked refuses (λ (g : Globals). correction_in s g.unique sheets n row column v)) h
 
-  pub wrong_stream : (m o : ℕ) → r ≡ Wrong m o → s ≡ stream_after s (correction_of s lent sheets n row column v)
+  pub right_checked : (g : Globals) → checked_of s lent ≡ Ok g → correction_of s lent sheets n row column v ≡ correction_in s g.unique sheets n row column v
   unfolding correction_of
-  wrong_stream m o h = ap (λ (x : Checked). stream_after s (by x)) (sym h ∙ is)
+  right_checked g h = ap (on_checked refuses (λ (g : Globals). correction_in s g.unique sheets n row column v)) h
 
-  pub right_answer : (g : Globals) (y : Answer) → r ≡ Right g → y ≡ answer_of (correction_in s g.unique sheets n row column v) → y ≡ answer_of (correction_of s lent sheets n row column v)
-  unfolding correction_of
-  right_answer g y h e = e ∙ ap (λ (x : Checked). answer_of (by x)) (sym h ∙ is)
-
-  pub right_stream : (g : Globals) (t : List ℕ) → r ≡ Right g → t ≡ stream_after s (correction_in s g.unique sheets n row column v) → t ≡ stream_after s (correction_of s lent sheets n row column v)
-  unfolding correction_of
-  right_stream g t h e = e ∙ ap (λ (x : Checked). stream_after s (by x)) (sym h ∙ is)
-
-pub ruleset checked_laws = (wrong_answer, wrong_stream, right_answer, right_stream)
-
-pub ruleset correct_laws = (kept_answer, kept_stream, written_answer, written_stream, field_in)
+pub ruleset checked_laws = (wrong_checked, right_checked)
 
 -- ---- a value field's place, as the code adds it up
 part_small : (f : Field) → (part_of f ≤ 18) × (start_of f ≤ 2)
@@ -434,60 +385,15 @@ part_small TextIndex = omega arith
 part_small TruthError = omega arith
 part_small StoredResult = omega arith
 
-module _ (at k : ℕ) (f : Field) {p : ℕ} (low : at ≤ 16777216) (few : k ≤ 256) (is : p ≡ part_of f) where
-  bytes_small : k * p ≤ 4608
-  bytes_small = let m = part_small f in let q : p ≤ 18 = omega arith in mul-le-mul few q
+module _ (k : ℕ) (f : Field) (few : k ≤ 256) where
+  pub part_bytes : k * part_of f ≤ 4608
+  part_bytes = let m = part_small f in mul-le-mul few m.0
 
-  pub bytes_fit : k * p < 2 ^ 64
-  bytes_fit = let m = bytes_small in omega arith
+pub start_bytes : (f : Field) → start_of f ≤ 2
+start_bytes f = (part_small f).1
 
-  pub part_fits : at + 8 + k * p < 2 ^ 64
-  part_fits = let m = bytes_small in omega arith
+pub ruleset place_laws = (part_bytes, start_bytes)
 
-  pub place_fits : {q : ℕ} → q ≡ start_of f → at + 8 + k * p + q < 2 ^ 64
-  place_fits e = let m = bytes_small in let n = part_small f in omega arith
-
-pub place_made : (id at k : ℕ) (f : Field) {p q : ℕ} → f ≡ field_of (shape_of id) → p ≡ part_of f → q ≡ start_of f → target.One f (at + 8 + k * p + q) ≡ field_of_cell id at k
-unfolding field_of_cell
-place_made id at k f e h i = rw (h, i, e) refl
-
--- ---- whether a row has the address, with its numbers in a wider type
-pub other_row : (here first n row column : ℕ) {h : ℕ} → h ≡ here → (h ≡ row → ⊥) → false ≡ in_row here first n row column
-unfolding in_row
-other_row here first n row column wide m = pick_ne _ _ _ _ _ (λ e. m (wide ∙ e)) refl
-
-module _ (here first n row column : ℕ) {h f : ℕ} (wide : h ≡ here) (left : f ≡ first) where
-  module _ (same : h ≡ row) where
-    pub left_of_lem : column < f → false ≡ in_row here first n row column
-    unfolding in_row
-    left_of_lem l = pick_eq _ _ _ _ _ (sym wide ∙ same) (pick_nle _ _ _ _ _ (rw left at l) refl)
-
-    module _ {c : ℕ} (count : c ≡ n) (from : f ≤ column) where
-      pub within_row : column < f + c → true ≡ in_row here first n row column
-      unfolding in_row
-      within_row l = pick_eq _ _ _ _ _ (sym wide ∙ same) (pick_le _ _ _ _ _ (rw left at from) (pick_lt _ _ _ _ _ (rw (left, count) at l) refl))
-
-      pub right_of : f + c ≤ column → false ≡ in_row here first n row column
-      unfolding in_row
-      right_of l = pick_eq _ _ _ _ _ (sym wide ∙ same) (pick_le _ _ _ _ _ (rw left at from) (pick_nlt _ _ _ _ _ (rw (left, count) at l) refl))
-
-pub ruleset row_laws = (other_row, left_of_lem, within_row, right_of)
-
--- ---- the cell of the address in a row
-module _ (found : Target) (id at here first n row column : ℕ) {b : Bool} (is : b ≡ in_row here first n row column) where
-  pub met_none : b ≡ false → found ≡ met_of found id at here first n row column
-  unfolding met_of
-  met_none h = pick_false _ _ _ _ (sym is ∙ h) refl
-
-  pub met_one : {f k : ℕ} (t r : Target) → b ≡ true → f ≡ first → k ≡ column - f → t ≡ field_of_cell id at k → r ≡ with_one found t → r ≡ met_of found id at here first n row column
-  unfolding met_of
-  met_one t r h i j e g = pick_true _ _ _ _ (sym is ∙ h) (g ∙ ap (with_one found) (e ∙ ap (field_of_cell id at) (j ∙ ap (λ (x : ℕ). column - x) i)))
-
-  -- the column lies in the row
-  pub met_left : {f : ℕ} → b ≡ true → f ≡ first → f ≤ column
-  met_left {f} h i = let a = row_holds here first n row column (sym is ∙ h) in omega arith
-
-  pub met_few : {f k : ℕ} → b ≡ true → n ≤ 256 → f ≡ first → k ≡ column - f → k ≤ 256
-  met_few h l i j = let a = row_holds here first n row column (sym is ∙ h) in omega arith
-
-pub ruleset met_laws = (met_none, met_one, met_left, met_few)
+-- ---- the cell of the address in a row: the column lies in it
+pub met_column : (here first n row column : ℕ) → in_row here first n row column ≡ true → (first ≤ column) × (column < first + n)
+met_column here first n row column h = let a = row_holds here first n row column h in (a.1, a.2)

@@ -1,7 +1,9 @@
 -- What the contracts of the inner functions speak of.
-use Rattle.std.specs.Prelude.{ℕ, ◌+◌, ◌-◌, ◌*◌, ◌≤◌, Bool, true, false, ltb, leb, eqb, List, [], ◌∷◌}
+use Rattle.std.specs.Prelude.{ℕ, ◌+◌, ◌-◌, ◌*◌, ◌≤◌, Bool, true, false, ltb, leb, eqb, List, [], ◌∷◌, Result, Ok, Err}
 use Rattle.steps.specs.Choice.{pick}
 use Rattle.steps.specs.Items.{nth}
+use Rattle.refusal.specs.declared.Refusal.{Refusal}
+use Rattle.refusal.specs.Refused.{refuse}
 use Rattle.value.specs.Value.{width_of}
 use Rattle.cell.specs.declared.Cell.{Cell}
 use Rattle.cell.specs.Cells.{shape_of, field_of, part_of, start_of}
@@ -11,7 +13,6 @@ use Rattle.reading.specs.Reading.{listed_of}
 use Rattle.correction.specs.declared.Target.{Target}
 use Rattle.correction.specs.declared.Target.TheVariants as target
 use Rattle.correction.specs.declared.Aim.{Aim}
-use Rattle.correction.specs.declared.Aim.TheVariants as aim
 use Rattle.correction.specs.Correction.{cells_at, no_sheet}
 
 -- what an address's cells come to, after some that were found before
@@ -47,14 +48,14 @@ field_of_cell id at k = target.One (field_of (shape_of id)) (at + 8 + k * part_o
 unfoldable pub met_of : Target → ℕ → ℕ → ℕ → ℕ → ℕ → ℕ → ℕ → Target
 met_of found id at here first n row column = pick (in_row here first n row column) (with_one found (field_of_cell id at (column - first))) found
 
-abbrev pub on_target : ℕ → Target → Aim
-on_target u target.None = aim.Refused 11 0
-on_target u (target.One k f) = aim.At k f u
-on_target u target.Many = aim.Refused 16 0
+abbrev pub on_target : ℕ → Target → Result Aim Refusal
+on_target u target.None = refuse 11 0
+on_target u (target.One k f) = Ok (record { kind = k; field = f; unique = u })
+on_target u target.Many = refuse 16 0
 
 -- the one cell of an address, before a value is looked at
-unfoldable pub aim_in : List ℕ → ℕ → ℕ → ℕ → ℕ → ℕ → Aim
-aim_in s u sheets n row column = nth (sheets_of s) n (λ (x : Sheet). on_target u (target_of (cells_at row column (listed_of s x)))) (aim.Refused (no_sheet sheets n) 0)
+unfoldable pub aim_in : List ℕ → ℕ → ℕ → ℕ → ℕ → ℕ → Result Aim Refusal
+aim_in s u sheets n row column = nth (sheets_of s) n (λ (x : Sheet). on_target u (target_of (cells_at row column (listed_of s x)))) (refuse (no_sheet sheets n) 0)
 
 -- the value field lies within the stream
 abbrev pub TargetWithin : ℕ → Target → Type 0
@@ -62,6 +63,6 @@ TargetWithin len target.None = Unit {0}
 TargetWithin len (target.One k f) = f + width_of k ≤ len
 TargetWithin len target.Many = Unit {0}
 
-abbrev pub AimWithin : ℕ → Aim → Type 0
-AimWithin len (aim.Refused n o) = Unit {0}
-AimWithin len (aim.At k f u) = f + width_of k ≤ len
+abbrev pub AimWithin : ℕ → Result Aim Refusal → Type 0
+AimWithin len (Ok x) = x.field + width_of x.kind ≤ len
+AimWithin len (Err e) = Unit {0}

@@ -9,23 +9,19 @@ use lib.Dec.{ltb, eqb}
 use lib.Seq.{sets}
 use borrow.Author.Tests.{eqb-true, eqb-false, ltb-true, ltb-false}
 use Rattle.steps.specs.Choice.{pick}
-use Rattle.steps.proofs.Choice.{never}
+use Rattle.std.specs.Prelude.{Result, Ok, Err}
 use Rattle.steps.specs.Items.{nth}
 use Rattle.byte_numbers.specs.Bytes.{bytes_of}
 use Rattle.value.specs.declared.Field.{Field}
 use Rattle.value.specs.Value.{width_of}
 use Rattle.cell.specs.declared.Cell.{Cell}
 use Rattle.new_value.specs.declared.NewValue.{NewValue}
-use Rattle.new_value.specs.declared.Plan.{Plan}
-use Rattle.new_value.specs.declared.Plan.TheVariants as plan
-use Rattle.new_value.specs.declared.Answer.TheVariants as answer
+use Rattle.refusal.specs.declared.Refusal.{Refusal}
 use Rattle.new_value.specs.Change.{Held, plan_of}
 use Rattle.sheet_agreement.specs.Agreement.{Sheet}
 use Rattle.globals.specs.declared.Globals.{Globals}
 use Rattle.globals.specs.Sheets.{sheets_of}
-use Rattle.workbook.specs.declared.Checked.{Checked}
-use Rattle.workbook.specs.declared.Checked.TheVariants.{Right, Wrong}
-use Rattle.workbook.specs.Check.{checked_of, on_checked}
+use Rattle.workbook.specs.Check.{Checked, checked_of, on_checked}
 use Rattle.reading.specs.Reading.{listed_of}
 use Rattle.correction.specs.Correction.{Correction, refuses, writes, cells_at, on_plan, on_cells, no_sheet, correction_in, correction_of, answer_of, stream_after}
 use Rattle.record_chain.specs.Chain.{Every, Nth, first, next}
@@ -40,9 +36,9 @@ use Rattle.either_order.specs.Apart.{Asked, outcome, Elsewhere, OneCell, AsAlone
 use Rattle.either_order.proofs.Sets.{stored_apart, stored_over}
 
 -- ---- what a correction comes to depends on the frames of the cells alone
-abbrev on_frame : Frame → Plan → Correction
-on_frame x (plan.Put b) = writes x.kind x.place b
-on_frame x (plan.Refused n o) = refuses n o
+abbrev on_frame : Frame → Result ℕ Refusal → Correction
+on_frame x (Ok b) = writes x.kind x.place b
+on_frame x (Err e) = refuses e.number e.offset
 
 abbrev on_frames : NewValue → ℕ → List Frame → Correction
 on_frames v u [] = refuses 11 0
@@ -53,9 +49,9 @@ unfoldable frames_at : ℕ → ℕ → List Frame → List Frame
 frames_at row column [] = []
 frames_at row column (x ∷ l) = pick (eqb x.row row && eqb x.column column) (x ∷ frames_at row column l) (frames_at row column l)
 
-frame_plan : (c : Cell) (p : Plan) → on_plan c p ≡ on_frame (frame_of c) p
-frame_plan c (plan.Put b) = refl
-frame_plan c (plan.Refused n o) = refl
+frame_plan : (c : Cell) (p : Result ℕ Refusal) → on_plan c p ≡ on_frame (frame_of c) p
+frame_plan c (Ok b) = refl
+frame_plan c (Err e) = refl
 
 frame_cells : (v : NewValue) (u : ℕ) (l : List Cell) → on_cells v u l ≡ on_frames v u (map frame_of l)
 frame_cells v u [] = refl
@@ -93,8 +89,8 @@ module _ {s t : List ℕ} {lent : ℕ} (left : Left s t lent) (sheets n row colu
       (λ x i. same_frames v u row column (listed_of t x) (listed_of s x) (left.cells n x i))
 
   checked_left : (x : Checked) → on_checked refuses (λ (g : Globals). correction_in t g.unique sheets n row column v) x ≡ on_checked refuses (λ (g : Globals). correction_in s g.unique sheets n row column v) x
-  checked_left (Right g) = in_left g.unique
-  checked_left (Wrong m o) = refl
+  checked_left (Ok g) = in_left g.unique
+  checked_left (Err e) = refl
 
   pub outcome_left : correction_of t lent sheets n row column v ≡ correction_of s lent sheets n row column v
   unfolding correction_of
@@ -118,7 +114,7 @@ record Place {A : Type 0} (l : List A) (x : A) : Type 0 where
 
 at_place : (row column : ℕ) (l : List Cell) (c : Cell) (m : List Cell) → cells_at row column l ≡ c ∷ m → Place l c
 unfolding cells_at pick
-at_place row column [] c m h = never (cc)
+at_place row column [] c m h = absurd (cc)
 at_place row column (d ∷ l) c m h = go (eqb d.row row && eqb d.column column) h (λ i. at_place row column l c m i)
   where
     go : (b : Bool) → pick b (d ∷ cells_at row column l) (cells_at row column l) ≡ c ∷ m → (cells_at row column l ≡ c ∷ m → Place l c) → Place (d ∷ l) c
@@ -127,7 +123,7 @@ at_place row column (d ∷ l) c m h = go (eqb d.row row && eqb d.column column) 
 
 pub both_true : (a b : Bool) → a && b ≡ true → (a ≡ true) × (b ≡ true)
 both_true true b h = (refl, h)
-both_true false b h = never (cc)
+both_true false b h = absurd (cc)
 
 has_address : (row column : ℕ) (l : List Cell) (c : Cell) → cells_at row column l ≡ c ∷ [] → (c.row ≡ row) × (c.column ≡ column)
 has_address row column l c e =
@@ -215,9 +211,9 @@ module _ (s : List ℕ) (lent : ℕ) (x y : Asked) (one : OneCell x y) where
       cell_one w.cell z.cell (sym w.only ∙ (λ j. cells_at (one.row j) (one.column j) (listed_of s (i j))) ∙ z.only)
 
 module _ (s : List ℕ) (lent sheets : ℕ) (x y : Asked) (one : OneCell x y) where
-  second_by : (c d : Correction) → outcome s lent sheets x ≡ c → outcome s lent sheets y ≡ d → answer_of c ≡ answer.Granted → answer_of d ≡ answer.Granted → stream_after (stream_after s c) d ≡ stream_after s d
-  second_by (refuses m o) d h i a b = never (cc)
-  second_by (writes f p m) (refuses n o) h i a b = never (cc)
+  second_by : (c d : Correction) → outcome s lent sheets x ≡ c → outcome s lent sheets y ≡ d → answer_of c ≡ Ok tt → answer_of d ≡ Ok tt → stream_after (stream_after s c) d ≡ stream_after s d
+  second_by (refuses m o) d h i a b = absurd (cc)
+  second_by (writes f p m) (refuses n o) h i a b = absurd (cc)
   second_by (writes f p m) (writes k q n) h i a b =
       let w = granted s lent sheets x.sheet x.row x.column x.value f p m h in
       let z = granted s lent sheets y.sheet y.row y.column y.value k q n i in

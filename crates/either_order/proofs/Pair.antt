@@ -3,19 +3,17 @@ use Prim.Native.Nat.{ℕ}
 use mathlib.Core.Path.{◌≡◌, refl, sym, ap, ◌∙◌}
 use mathlib.Core.List.{List}
 use lib.ListN.{length}
-use Rattle.steps.proofs.Choice.{never}
-use Rattle.new_value.specs.declared.Answer.TheVariants as answer
+use Rattle.std.specs.Prelude.{Result, Ok, Err}
 use Rattle.new_value.specs.Change.{Held}
 use Rattle.globals.specs.declared.Globals.{Globals}
 use Rattle.globals.specs.Sheets.{sheets_of}
 use Rattle.workbook.specs.Check.{checked_of}
 use Rattle.correction.specs.Correction.{Correction}
 use Rattle.correction.specs.Correction as correction
-use Rattle.pair.specs.declared.Whose.{Whose}
+use Rattle.pair.specs.declared.StreamRefusal.{StreamRefusal}
 use Rattle.pair.specs.declared.PairChecked.{PairChecked}
-use Rattle.pair.specs.declared.PairChecked.TheVariants as checked
-use Rattle.pair.specs.declared.PairCorrected.TheVariants.{Granted}
-use Rattle.pair.specs.Pair.{pair_of, Passes, of_stream, on_pair, refuses, asked, pair_correction_of, answer_of, session_after}
+use Rattle.pair.specs.Refused.{of_stream}
+use Rattle.pair.specs.Pair.{pair_of, Passes, on_pair, refuses, asked, pair_correction_of, answer_of, session_after}
 use Rattle.pair.proofs.Laws.{passes_both}
 use Rattle.pair.proofs.Correcting.{asked_stream, pair_is}
 use Rattle.reads_after.proofs.Kept.{all_left}
@@ -58,19 +56,19 @@ module _ (t : List ℕ) (g h : Globals) where
   twice : (s : List ℕ) → Passes t s g h → (x y : Asked) → Held x.value → after t (after t s x) y ≡ one.after (one.after s u k x) u k y
   twice s p x y held = ap (λ (z : List ℕ). after t z y) (after_is s p x) ∙ after_is (one.after s u k x) (passes_after s p x held) y
 
-  granted_one : (c : Correction) → answer_of (asked c) ≡ Granted → correction.answer_of c ≡ answer.Granted
-  granted_one (correction.refuses m o) e = never (cc)
+  granted_one : (c : Correction) → answer_of (asked c) ≡ Ok tt → correction.answer_of c ≡ Ok tt
+  granted_one (correction.refuses m o) e = absurd (cc)
   granted_one (correction.writes f q b) e = refl
 
-  second_passed : (s : List ℕ) → Passes t s g h → (x y : Asked) → Held x.value → OneCell x y → answer t s x ≡ Granted → answer t (after t s x) y ≡ Granted → after t (after t s x) y ≡ after t s y
+  second_passed : (s : List ℕ) → Passes t s g h → (x y : Asked) → Held x.value → OneCell x y → answer t s x ≡ Ok tt → answer t (after t s x) y ≡ Ok tt → after t (after t s x) y ≡ after t s y
   second_passed s p x y held same a b =
       let i = granted_one (one.outcome s u k x) (sym (ap answer_of (outcome_is s p x)) ∙ a) in
       let j = granted_one (one.outcome (one.after s u k x) u k y) (sym (ap answer_of (outcome_is (one.after s u k x) (passes_after s p x held) y)) ∙ ap (λ (z : List ℕ). answer t z y) (sym (after_is s p x)) ∙ b) in
       twice s p x y held ∙ second_alone s u k x y held same i j ∙ sym (after_is s p y)
 
 -- ---- where one doesn't, every correction is refused alike
-module _ (t s : List ℕ) (w : Whose) (m o : ℕ) (is : pair_of t s ≡ checked.Refused w m o) where
-  outcome_refused : (x : Asked) → outcome t s x ≡ refuses (of_stream w) m o
+module _ (t s : List ℕ) (e : StreamRefusal) (is : pair_of t s ≡ Err e) where
+  outcome_refused : (x : Asked) → outcome t s x ≡ refuses (of_stream e.whose) e.number e.offset
   unfolding pair_correction_of
   outcome_refused x = ap (on_pair refuses (λ _ h. asked (correction.correction_in s h.unique (length (sheets_of t)) x.sheet x.row x.column x.value))) is
 
@@ -82,19 +80,20 @@ module _ (t s : List ℕ) (w : Whose) (m o : ℕ) (is : pair_of t s ≡ checked.
 
 -- ---- the claims
 module _ (t s : List ℕ) (x y : Asked) where
-  alone_by : Held x.value → (c : PairChecked) → pair_of t s ≡ c → outcome t (after t s x) y ≡ outcome t s y
-  alone_by held (checked.Passed g h) i = alone_passed t g h s (passes_both t s g h i) x y held
-  alone_by held (checked.Refused w m o) i = ap (λ (z : List ℕ). outcome t z y) (after_refused t s w m o i x)
+  alone_by : Held x.value → (c : Result PairChecked StreamRefusal) → pair_of t s ≡ c → outcome t (after t s x) y ≡ outcome t s y
+  alone_by held (Ok c) i = alone_passed t c.template c.session s (passes_both t s c.template c.session i) x y held
+  alone_by held (Err e) i = ap (λ (z : List ℕ). outcome t z y) (after_refused t s e i x)
 
-  ends_by : Held x.value → Held y.value → Elsewhere x y → (c : PairChecked) → pair_of t s ≡ c → after t (after t s x) y ≡ after t (after t s y) x
-  ends_by hx hy else (checked.Passed g h) i =
-      let p = passes_both t s g h i in
-      twice t g h s p x y hx ∙ (either_order s g.unique (length (sheets_of t)) x y hx hy else).0 ∙ sym (twice t g h s p y x hy)
-  ends_by hx hy else (checked.Refused w m o) i = twice_refused t s w m o i x y ∙ sym (twice_refused t s w m o i y x)
+  ends_by : Held x.value → Held y.value → Elsewhere x y → (c : Result PairChecked StreamRefusal) → pair_of t s ≡ c → after t (after t s x) y ≡ after t (after t s y) x
+  ends_by hx hy else (Ok c) i =
+      let g = c.template in
+      let p = passes_both t s g c.session i in
+      twice t g c.session s p x y hx ∙ (either_order s g.unique (length (sheets_of t)) x y hx hy else).0 ∙ sym (twice t g c.session s p y x hy)
+  ends_by hx hy else (Err e) i = twice_refused t s e i x y ∙ sym (twice_refused t s e i y x)
 
-  second_by : Held x.value → OneCell x y → answer t s x ≡ Granted → answer t (after t s x) y ≡ Granted → (c : PairChecked) → pair_of t s ≡ c → after t (after t s x) y ≡ after t s y
-  second_by held same a b (checked.Passed g h) i = second_passed t g h s (passes_both t s g h i) x y held same a b
-  second_by held same a b (checked.Refused w m o) i = twice_refused t s w m o i x y ∙ sym (after_refused t s w m o i y)
+  second_by : Held x.value → OneCell x y → answer t s x ≡ Ok tt → answer t (after t s x) y ≡ Ok tt → (c : Result PairChecked StreamRefusal) → pair_of t s ≡ c → after t (after t s x) y ≡ after t s y
+  second_by held same a b (Ok c) i = second_passed t c.template c.session s (passes_both t s c.template c.session i) x y held same a b
+  second_by held same a b (Err e) i = twice_refused t s e i x y ∙ sym (after_refused t s e i y)
 
 pub pair_alone : AsAlone
 pair_alone t s x y held = alone_by t s x y held (pair_of t s) refl

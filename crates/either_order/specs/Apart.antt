@@ -1,8 +1,7 @@
 -- Two corrections of one stream. `lent` and `sheets` are a template's two numbers, 0 for a stream by itself. In a stream that doesn't pass both are refused.
-use Rattle.std.specs.Prelude.{ℕ, ◌≡◌, List}
+use Rattle.std.specs.Prelude.{ℕ, ◌≡◌, List, Result, Ok}
+use Rattle.refusal.specs.declared.Refusal.{Refusal}
 use Rattle.new_value.specs.declared.NewValue.{NewValue}
-use Rattle.new_value.specs.declared.Answer.{Answer}
-use Rattle.new_value.specs.declared.Answer.TheVariants.{Granted}
 use Rattle.new_value.specs.Change.{Held}
 use Rattle.correction.specs.Correction.{Correction, correction_of, answer_of, stream_after}
 
@@ -16,7 +15,7 @@ pub record Asked : Type 0 where
 abbrev pub outcome : List ℕ → ℕ → ℕ → Asked → Correction
 outcome s lent sheets x = correction_of s lent sheets x.sheet x.row x.column x.value
 
-abbrev pub answer : List ℕ → ℕ → ℕ → Asked → Answer
+abbrev pub answer : List ℕ → ℕ → ℕ → Asked → Result (Unit {0}) Refusal
 answer s lent sheets x = answer_of (outcome s lent sheets x)
 
 abbrev pub after : List ℕ → ℕ → ℕ → Asked → List ℕ
@@ -46,4 +45,4 @@ EitherOrder =
 abbrev pub SecondAlone : Type 0
 SecondAlone =
     (s : List ℕ) (lent sheets : ℕ) (x y : Asked) → Held x.value → OneCell x y
-    → answer s lent sheets x ≡ Granted → answer (after s lent sheets x) lent sheets y ≡ Granted → after (after s lent sheets x) lent sheets y ≡ after s lent sheets y
+    → answer s lent sheets x ≡ Ok tt → answer (after s lent sheets x) lent sheets y ≡ Ok tt → after (after s lent sheets x) lent sheets y ≡ after s lent sheets y

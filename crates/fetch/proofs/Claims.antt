@@ -2,6 +2,8 @@
 use Prim.Native.Nat.{ℕ, zero, suc, ◌+◌, ◌≤◌, ◌<◌}
 use mathlib.Core.Path.{◌≡◌, refl, sym, ap, ◌∙◌, subst}
 use mathlib.Core.List.{List, [], ◌∷◌, map}
+use Rattle.std.specs.Prelude.{Result, Ok}
+use Rattle.refusal.specs.declared.Refusal.{Refusal}
 use mathlib.Core.Logic.{inl, inr}
 use mathlib.Core.Bool.{Bool, true, false}
 use native.Mathlib.Omega.{arith}
@@ -9,14 +11,13 @@ use lib.ListN.{length}
 use lib.Dec.{eqb}
 use borrow.Author.Tests.{eqb-true, ne_eqb}
 use Rattle.steps.proofs.Choice.{never, pick_eq, pick_lt, pick_nlt, pick_false, pick_any, pick_by}
-use Rattle.steps.specs.Items.{Lists, at_end_lem, and_then}
+use Rattle.steps.specs.Items.{Lists, at_end, and_then}
 use Rattle.byte_numbers.specs.Bytes.{u16_at, u32_at}
 use Rattle.record.specs.declared.Header.{Header}
 use Rattle.record.specs.declared.Header.TheVariants as header
 use Rattle.record.specs.Record.{header_at}
 use Rattle.record.proofs.Laws.{whole}
 use Rattle.segments.specs.declared.Cursor.{Cursor}
-use Rattle.segments.specs.declared.Moved.{Moved}
 use Rattle.segments.specs.Segments.{Got, got, refused, then, push, list_of, continues, next_segment}
 use Rattle.segments.specs.Parts.{Inside, ends}
 use Rattle.segments.proofs.Local.{refused_not}
@@ -25,8 +26,6 @@ use Rattle.strings.specs.Parts.{next_string}
 use Rattle.strings.proofs.Local.{right}
 use Rattle.strings.proofs.Laws.{next_inside, Accepted}
 use Rattle.globals.specs.declared.Globals.{Globals}
-use Rattle.globals.specs.declared.Ended.{Ended}
-use Rattle.globals.specs.declared.Ended.TheVariants.{At}
 use Rattle.globals.specs.Globals.{is_globals_bof, on_first, globals_of}
 use Rattle.globals.proofs.Table.{TableTold, table_told}
 use Rattle.reading.specs.Reading.{strings_at, on_globals, reading_of}
@@ -70,7 +69,7 @@ module _ (s : List ℕ) (e : Cursor) (stop : NoString s e) where
   texts_read zero c inside l h =
       let i : [] ≡ l = cc in
       let j : e ≡ c = cc in
-      subst (λ (y : List Cursor). Given s c (map (units_at s) y)) i (at_end_lem (subst (NoString s) j stop))
+      subst (λ (y : List Cursor). Given s c (map (units_at s) y)) i (at_end (subst (NoString s) j stop))
   texts_read (suc n) c inside l h = at_place (texts_read n) (next_place s c) refl h
     where
       Rest : Type 0
@@ -81,9 +80,9 @@ module _ (s : List ℕ) (e : Cursor) (stop : NoString s e) where
           let i : d ∷ k ≡ l = cc in
           let j : f ≡ e = cc in
           let m : next_string s c ≡ got us g = ap (λ (y : Got Unit). then y (λ _ d. string_at s d)) p ∙ q in
-          let o : Inside s g = next_inside s c g (Moved.To g) (sym (ap ends m)) refl inside in
+          let o : Inside s g = next_inside s c g (Ok g) (sym (ap ends m)) refl inside in
           subst (Given s c) (ap (λ (y : List ℕ). y ∷ map (units_at s) k) (ap list_of (sym q)) ∙ ap (map (units_at s)) i)
-          (and_then (given s c us g (text_is s c [] inside.1 inside.0 ∙ m)) (ih g o k (r ∙ ap (got k) j)))
+          (and_then (given s c us g (text_is s c inside.1 inside.0 ∙ m)) (ih g o k (r ∙ ap (got k) j)))
       at_rest ih d us g p q (refused a b) r h = absurd (refused_not h)
 
       at_string : Rest → (d : Cursor) → next_place s c ≡ got tt d → (x : Got (List ℕ)) → string_at s d ≡ x → then x (λ _ g. push d (strings s n g)) ≡ got l e → Given s c (map (units_at s) l)
@@ -103,7 +102,7 @@ module _ (s : List ℕ) where
         let c = table.after in
         let r = right s p e (places_of s p e) c table.is in
         let long = r.long in
-        let start : first p e ≡ first_of s p = first_there s p (first p e) (λ i. omega arith) (omega arith) (omega arith) (u16_at s (p + 2)) (u16_at s (p + 2)) refl refl (omega arith) refl in
+        let start : first p e ≡ first_of s p = sym (first_there s p later (omega arith) within) in
         subst (λ (d : Cursor). Given s d (map (units_at s) (places_of s p e))) start
         (texts_read s c (no_string s c r.full r.alone) (u32_at s (p + 8)) (first p e) (omega arith, within) (places_of s p e) r.read)
 
@@ -112,21 +111,21 @@ module _ (s : List ℕ) where
   unfolding is_globals_bof
   is_bof t z h = pick_by (λ (a : Bool). a ≡ true → t ≡ 0x0809) (eqb t 0x0809) (λ i _. eqb-true t 0x0809 i) (λ _ i. never (cc)) h
 
-  starts : (u : ℕ) (g : Globals) (x : Header) → header_at s 0 ≡ x → on_first s u x ≡ At g → u16_at s 0 ≡ 0x0809
+  starts : (u : ℕ) (g : Globals) (x : Header) → header_at s 0 ≡ x → on_first s u x ≡ Ok g → u16_at s 0 ≡ 0x0809
   starts u g (header.Record t z e) i h =
       let w = whole s 0 t z e i in
-      pick_by (λ (a : Ended). a ≡ At g → u16_at s 0 ≡ 0x0809) (is_globals_bof s t z) (λ j _. sym w.kind ∙ is_bof t z j) (λ _ j. never (cc)) h
+      pick_by (λ (a : Result Globals Refusal). a ≡ Ok g → u16_at s 0 ≡ 0x0809) (is_globals_bof s t z) (λ j _. sym w.kind ∙ is_bof t z j) (λ _ j. never (cc)) h
   starts u g header.Cut i h = never (cc)
   starts u g header.End i h = never (cc)
 
-  no_continue : (u : ℕ) (g : Globals) → globals_of s u ≡ At g → continues s 0 ≡ false
+  no_continue : (u : ℕ) (g : Globals) → globals_of s u ≡ Ok g → continues s 0 ≡ false
   unfolding globals_of continues
   no_continue u g h = let b = starts u g (header_at s 0) refl h in pick_any (λ (a : Bool). a ≡ false) _ refl (ne_eqb (u16_at s 0) 0x003c (λ i. omega arith))
 
-  told_texts : (u : ℕ) (g : Globals) → globals_of s u ≡ At g → TableTold s u g → Given s (first_of s g.table) (strings_at s g.table)
+  told_texts : (u : ℕ) (g : Globals) → globals_of s u ≡ Ok g → TableTold s u g → Given s (first_of s g.table) (strings_at s g.table)
   told_texts u g h (inl t) =
-      subst (λ (c : Cursor). Given s c (strings_at s g.table)) (first_none s g.table nowhere t.0 refl)
-      (subst (Given s nowhere) (sym (strings_none s g.table t.0)) (at_end_lem (no_string s nowhere refl (no_continue u g h))))
+      subst (λ (c : Cursor). Given s c (strings_at s g.table)) (sym (first_none s g.table t.0))
+      (subst (Given s nowhere) (sym (strings_none s g.table t.0)) (at_end (no_string s nowhere refl (no_continue u g h))))
   told_texts u g h (inr t) = subst (Given s (first_of s g.table)) (sym (strings_some s g.table t.later)) (table_texts g.table t.later t.within t.table)
 
 pub strings_are_listed : StringsListed

@@ -1,4 +1,4 @@
--- The laws of a fetch, with what the check gave as the proof has it. Assumes nothing.
+-- The laws of a fetch. Assumes nothing.
 use Prim.Native.Nat.{ℕ, zero, suc, ◌+◌, ◌≤◌, ◌<◌}
 use mathlib.Core.Path.{◌≡◌, refl, sym, ap, ◌∙◌}
 use mathlib.Core.List.{List, [], ◌∷◌}
@@ -6,28 +6,21 @@ use mathlib.Core.Logic.{inl, inr}
 use native.Mathlib.Omega.{arith}
 use lib.ListN.{length, get_or}
 use lib.Dec.{ltb}
-use Rattle.steps.proofs.Choice.{pick_any, pick_eq, pick_ne}
+use Rattle.std.specs.Prelude.{Option, Some, None, Result, Ok, Err}
+use Rattle.steps.proofs.Choice.{never, pick_any, pick_eq, pick_ne}
 use Rattle.steps.specs.Items.{nth}
 use Rattle.byte_numbers.specs.Bytes.{u16_at}
-use Rattle.strings.specs.declared.Fetched.{Fetched}
-use Rattle.strings.specs.declared.Fetched.TheVariants.{Refused}
+use Rattle.refusal.specs.declared.Refusal.{Refusal}
+use Rattle.refusal.specs.Refused.{refuse}
 use Rattle.strings.specs.Table.{places_of, strings_of, units_of, fetched_of, buffer_of}
 use Rattle.strings.proofs.Local.{strings_at_lem, strings_length}
-use Rattle.sheet_agreement.specs.declared.Agreement.{Agreement}
-use Rattle.sheet_agreement.specs.declared.Agreement.TheVariants.{Agree, Disagree}
 use Rattle.sheet_agreement.specs.Agreement.{agreement_of}
 use Rattle.globals.specs.declared.Globals.{Globals}
-use Rattle.globals.specs.declared.Ended.{Ended}
-use Rattle.globals.specs.declared.Ended.TheVariants as globals
 use Rattle.globals.specs.Globals.{globals_of}
 use Rattle.globals.specs.Sheets.{sheets_of}
 use Rattle.globals.proofs.Table.{Stands, table_told}
-use Rattle.top_level.specs.declared.Walked.{Walked}
-use Rattle.top_level.specs.declared.Walked.TheVariants as walked
 use Rattle.top_level.specs.TopLevel.{tops_from, bofs_from}
-use Rattle.workbook.specs.declared.Checked.{Checked}
-use Rattle.workbook.specs.declared.Checked.TheVariants.{Right, Wrong}
-use Rattle.workbook.specs.Check.{agreed, on_walked, on_globals, checked_of, on_checked}
+use Rattle.workbook.specs.Check.{Checked, agreed, on_walked, on_globals, checked_of, on_checked}
 use Rattle.reading.specs.Reading.{strings_at}
 use Rattle.fetch.specs.Fetch.{answer_in, answer_of, buffer_in, buffer_after}
 use Rattle.fetch.specs.Parts.{TableAt}
@@ -48,23 +41,23 @@ module _ {A B : Type 0} (f : A → B) (d : B) where
 
 -- ---- the globals of a stream that passes
 module _ (s : List ℕ) (u : ℕ) (g : Globals) where
-  by_agreed : (b : Globals) (x : Agreement) → Right g ≡ agreed b x → b ≡ g
-  by_agreed b Agree h = cc
-  by_agreed b (Disagree o) h = absurd (let z : ◌≡◌ {A = ℕ} 0 1 = cc in omega arith)
+  by_agreed : (b : Globals) (x : Option ℕ) → Ok g ≡ agreed b x → b ≡ g
+  by_agreed b None h = cc
+  by_agreed b (Some o) h = never (cc)
 
-  by_walked : (b : Globals) (x : Walked) → Right g ≡ on_walked s b x → b ≡ g
-  by_walked b walked.Passed h = by_agreed b (agreement_of (sheets_of s) (bofs_from s b.unique b.at)) h
-  by_walked b (walked.Refused n o) h = absurd (let z : ◌≡◌ {A = ℕ} 0 1 = cc in omega arith)
+  by_walked : (b : Globals) (x : Result (Unit {0}) Refusal) → Ok g ≡ on_walked s b x → b ≡ g
+  by_walked b (Ok t) h = by_agreed b (agreement_of (sheets_of s) (bofs_from s b.unique b.at)) h
+  by_walked b (Err e) h = never (cc)
 
-  by_globals : (x : Ended) → Right g ≡ on_globals s x → x ≡ globals.At g
-  by_globals (globals.At b) h = ap globals.At (by_walked b (tops_from s b.unique b.at) h)
-  by_globals (globals.Refused n o) h = absurd (let z : ◌≡◌ {A = ℕ} 0 1 = cc in omega arith)
+  by_globals : (x : Result Globals Refusal) → Ok g ≡ on_globals s x → x ≡ Ok g
+  by_globals (Ok b) h = ap Ok (by_walked b (tops_from s b.unique b.at) h)
+  by_globals (Err e) h = never (cc)
 
-  pub checked_globals : Right g ≡ checked_of s u → globals_of s u ≡ globals.At g
+  pub checked_globals : Ok g ≡ checked_of s u → globals_of s u ≡ Ok g
   unfolding checked_of
   checked_globals h =
-      pick_any (λ (x : Checked). Right g ≡ x → globals_of s u ≡ globals.At g) (ltb 16777216 (length s))
-      (λ i. absurd (let z : ◌≡◌ {A = ℕ} 0 1 = cc in omega arith))
+      pick_any (λ (x : Checked). Ok g ≡ x → globals_of s u ≡ Ok g) (ltb 16777216 (length s))
+      (λ i. never (cc))
       (by_globals (globals_of s u)) h
 
 -- ---- its strings
@@ -76,84 +69,71 @@ pub strings_some : (s : List ℕ) (p : ℕ) → 0 < p → strings_at s p ≡ str
 unfolding strings_at
 strings_some s p h = sym (pick_ne _ _ _ p 0 (λ i. omega arith) refl)
 
-module _ (s : List ℕ) (p n i : ℕ) where
-  count_by : TableAt s p n → length (strings_at s p) ≡ n
-  count_by (inl t) = ap length (strings_none s p t.0) ∙ sym t.1
-  count_by (inr t) = ap length (strings_some s p t.later) ∙ strings_length s p (p + 4 + u16_at s (p + 2)) ∙ t.count
+module _ (s : List ℕ) (p n i : ℕ) (told : TableAt s p n) where
+  count_by : length (strings_at s p) ≡ n
+  count_by = go told
+    where
+      go : TableAt s p n → length (strings_at s p) ≡ n
+      go (inl t) = ap length (strings_none s p t.0) ∙ sym t.1
+      go (inr t) = ap length (strings_some s p t.later) ∙ strings_length s p (p + 4 + u16_at s (p + 2)) ∙ t.count
 
-  stands_by : i < n → TableAt s p n → Stands s p n
-  stands_by l (inl t) = absurd (omega arith)
-  stands_by l (inr t) = t
+  pub known_none : (m : ℕ) → n ≤ i → refuse 11 0 ≡ nth (strings_at s p) i (fetched_of m) (refuse 11 0)
+  known_none m l = nth_past _ _ (strings_at s p) i (omega (arith, count_by))
 
-  module _ (told : TableAt s p n) where
-    pub known_none : (m : ℕ) → n ≤ i → Refused 11 0 ≡ nth (strings_at s p) i (fetched_of m) (Refused 11 0)
-    known_none m l = nth_past _ _ (strings_at s p) i (omega (arith, count_by told))
+  pub known_kept : (b : List ℕ) → n ≤ i → b ≡ nth (strings_at s p) i (buffer_of b) b
+  known_kept b l = nth_past _ b (strings_at s p) i (omega (arith, count_by))
 
-    pub known_kept : (b : List ℕ) → n ≤ i → b ≡ nth (strings_at s p) i (buffer_of b) b
-    known_kept b l = nth_past _ b (strings_at s p) i (omega (arith, count_by told))
+  module _ (l : i < n) where
+    stands : Stands s p n
+    stands = go told
+      where
+        go : TableAt s p n → Stands s p n
+        go (inl t) = absurd (omega arith)
+        go (inr t) = t
 
-    module _ (l : i < n) where
-      stands : Stands s p n
-      stands = stands_by l told
+    pub table_whole : p + 4 + u16_at s (p + 2) ≤ length s
+    table_whole = stands.within
 
-      pub table_whole : p + 4 + u16_at s (p + 2) ≤ length s
-      table_whole = stands.within
+    pub table_string : i < length (places_of s p (p + 4 + u16_at s (p + 2)))
+    table_string = let c = stands.count in omega arith
 
-      module _ (e j : ℕ) (end : e ≡ p + 4 + u16_at s (p + 2)) (same : j ≡ i) where
-        pub table_low : p + 4 ≤ e
-        table_low = omega arith
+    module _ (e : ℕ) (end : e ≡ p + 4 + u16_at s (p + 2)) where
+      string_is : {X : Type 0} (f : List ℕ → X) (d : X) → f (units_of s p e i) ≡ nth (strings_at s p) i f d
+      string_is f d =
+          ap f (rw end (sym (ap (λ (x : List (List ℕ)). get_or x i []) (strings_some s p stands.later) ∙ strings_at_lem s p (p + 4 + u16_at s (p + 2)) i)))
+          ∙ nth_there f d (strings_at s p) i (omega (arith, count_by)) []
 
-        pub table_within : e ≤ length s
-        table_within = let w = stands.within in omega arith
+      pub known_there : (m : ℕ) (y : Result ℕ Refusal) → y ≡ fetched_of m (units_of s p e i) → y ≡ nth (strings_at s p) i (fetched_of m) (refuse 11 0)
+      known_there m y k = k ∙ string_is (fetched_of m) (refuse 11 0)
 
-        pub table_string : j < length (places_of s p e)
-        table_string = rw end (let c = stands.count in omega arith)
+      pub known_written : (b c : List ℕ) → c ≡ buffer_of b (units_of s p e i) → c ≡ nth (strings_at s p) i (buffer_of b) b
+      known_written b c k = k ∙ string_is (buffer_of b) b
 
-        string_is : {X : Type 0} (f : List ℕ → X) (d : X) → f (units_of s p e j) ≡ nth (strings_at s p) i f d
-        string_is f d =
-            ap f (rw (end, same) (sym (ap (λ (x : List (List ℕ)). get_or x i []) (strings_some s p stands.later) ∙ strings_at_lem s p (p + 4 + u16_at s (p + 2)) i)))
-            ∙ nth_there f d (strings_at s p) i (omega (arith, count_by told)) []
+pub ruleset table_laws = (table_whole, table_string)
 
-        pub known_there : (m : ℕ) (y : Fetched) → y ≡ fetched_of m (units_of s p e j) → y ≡ nth (strings_at s p) i (fetched_of m) (Refused 11 0)
-        known_there m y k = k ∙ string_is (fetched_of m) (Refused 11 0)
-
-        pub known_written : (b c : List ℕ) → c ≡ buffer_of b (units_of s p e j) → c ≡ nth (strings_at s p) i (buffer_of b) b
-        known_written b c k = k ∙ string_is (buffer_of b) b
-
-pub ruleset table_laws = (table_whole, table_low, table_within, table_string)
-
-pub ruleset known_laws = (known_none, known_there)
-
-pub ruleset kept_laws = (known_kept, known_written)
+pub ruleset known_laws = (known_none, known_kept, known_there, known_written)
 
 -- ---- the answer and the buffer
-module _ (s : List ℕ) (i : ℕ) (b : List ℕ) {r : Checked} (is : r ≡ checked_of s 0) where
-  abbrev answer_by : Checked → Fetched
-  answer_by x = on_checked Refused (answer_in s i b) x
-
-  abbrev buffer_by : Checked → List ℕ
-  buffer_by x = on_checked (λ _ _. b) (buffer_in s i b) x
-
-  pub fetch_wrong : (n o : ℕ) → r ≡ Wrong n o → Refused n o ≡ answer_of s i b
-  unfolding answer_of
-  fetch_wrong n o h = ap answer_by (sym h ∙ is)
-
-  pub buffer_wrong : (n o : ℕ) → r ≡ Wrong n o → b ≡ buffer_after s i b
-  unfolding buffer_after
-  buffer_wrong n o h = ap buffer_by (sym h ∙ is)
-
-  module _ (g : Globals) (h : r ≡ Right g) where
-    pub fetch_right : (y : Fetched) → y ≡ nth (strings_at s g.table) i (fetched_of (length b)) (Refused 11 0) → y ≡ answer_of s i b
+module _ (s : List ℕ) (i : ℕ) (b : List ℕ) where
+  module _ (e : Refusal) (h : checked_of s 0 ≡ Err e) where
+    pub fetch_wrong : answer_of s i b ≡ Err e
     unfolding answer_of
-    fetch_right y k = k ∙ ap answer_by (sym h ∙ is)
+    fetch_wrong = ap (on_checked refuse (answer_in s i b)) h
 
-    pub buffer_right : (c : List ℕ) → c ≡ nth (strings_at s g.table) i (buffer_of b) b → c ≡ buffer_after s i b
+    pub buffer_wrong : buffer_after s i b ≡ b
     unfolding buffer_after
-    buffer_right c k = k ∙ ap buffer_by (sym h ∙ is)
+    buffer_wrong = ap (on_checked (λ _ _. b) (buffer_in s i b)) h
 
-pub table_at : (s : List ℕ) {r : Checked} → r ≡ checked_of s 0 → (g : Globals) → r ≡ Right g → TableAt s g.table g.unique
-table_at s is g h = table_told s 0 g (checked_globals s 0 g (sym h ∙ is))
+  module _ (g : Globals) (h : checked_of s 0 ≡ Ok g) where
+    pub fetch_right : answer_of s i b ≡ nth (strings_at s g.table) i (fetched_of (length b)) (refuse 11 0)
+    unfolding answer_of
+    fetch_right = ap (on_checked refuse (answer_in s i b)) h
 
-pub ruleset fetch_laws = (fetch_wrong, fetch_right)
+    pub buffer_right : buffer_after s i b ≡ nth (strings_at s g.table) i (buffer_of b) b
+    unfolding buffer_after
+    buffer_right = ap (on_checked (λ _ _. b) (buffer_in s i b)) h
 
-pub ruleset buffer_laws = (buffer_wrong, buffer_right)
+pub table_at : (s : List ℕ) (g : Globals) → checked_of s 0 ≡ Ok g → TableAt s g.table g.unique
+table_at s g h = table_told s 0 g (checked_globals s 0 g (sym h))
+
+pub ruleset fetch_laws = (fetch_wrong, buffer_wrong, fetch_right, buffer_right, table_at)

@@ -1,6 +1,6 @@
 -- Flags, digit by digit. Assumes nothing.
 use Prim.Native.Nat.{ℕ, zero, suc, ◌+◌, ◌-◌, ◌*◌, ◌/◌, ◌%◌, ◌^◌, ◌≤◌, ◌<◌, max}
-use mathlib.Core.Path.{◌≡◌, refl, sym, ap, ap₂, ◌∙◌, subst}
+use mathlib.Core.Path.{◌≡◌, refl, sym, ap, ap₂, ◌∙◌}
 use mathlib.Core.List.{List}
 use mathlib.Core.Bool.{Bool, true, false}
 use native.Mathlib.Omega.{arith}
@@ -8,16 +8,18 @@ use native.Mathlib.Nat.{mod-lt, mod-eq_of_lt, pow-suc, div-add-mod'}
 use native.Mathlib.Numerals.{add-one}
 use lib.ListN.{length, get_or, set, length-set}
 use lib.Seq.{get_or-set_same, get_or-set_other}
-use lib.Dec.{eqb}
+use lib.Dec.{eqb, lit<}
+use mir.Syntax.{w64}
+use mir.Val.{Fits}
 use lib.Arith.{digits_div, digits_mod}
-use lib.Pow.{pow_pos, shl_exact, shr-shr, field, mod-mod-pow}
-use lib.Bits.{bit_and, bit_or, or_step, or_zero_r, and_le_l, and_mask}
-use lib.Count.{ones_in, ones, ones_step, ones-le}
+use lib.Pow.{shl_exact, shr-shr, field, mod-mod-pow}
+use lib.Bits.{bit_and, bit_or, or_step, or_zero_r, and_mask}
+use lib.Count.{ones_in, ones, ones_step}
 use borrow.Author.Tests.{eqb-true, eqb-false, eq-eqb, ne_eqb}
 use Rattle.steps.specs.Choice.{pick}
 use Rattle.steps.proofs.Choice.{pick_ne}
 use Rattle.flags.specs.Flags.{bit_at, flag_at, set_below}
-use Rattle.flags.specs.Parts.{SetOne, Ranked}
+use Rattle.flags.specs.Parts.{SetOne}
 
 two_pos : 0 < 2
 two_pos = omega arith
@@ -154,18 +156,12 @@ set_in l j (suc k) h =
     let c = ones_low k (get_or l j 0) in
     ap (set_below l) e ∙ (let r : flag_at l (j * 64 + k) + set_below l (j * 64 + k) ≡ set_below l (j * 64) + ones (get_or l j 0 % 2 ^ suc k) = omega arith in r)
 
-pub set_is : (l : List ℕ) (i : ℕ) → set_below l i ≡ set_below l (i / 64 * 64) + ones (get_or l (i / 64) 0 % 2 ^ (i % 64))
-set_is l i =
-    let m : i % 64 < 64 = mod-lt i (pos) in
-    ap (set_below l) (sym (div-add-mod' i 64)) ∙ set_in l (i / 64) (i % 64) (omega arith)
-  where
-    pos : 0 < 64
-    pos = omega arith
-
-set_word : (l : List ℕ) (j : ℕ) → set_below l ((j + 1) * 64) ≡ set_below l (j * 64) + ones (get_or l j 0 % 18446744073709551616)
-set_word l j =
+-- of a word that fits
+pub set_whole : (l : List ℕ) (j : ℕ) → Fits w64 (get_or l j 0) → set_below l ((j + 1) * 64) ≡ set_below l (j * 64) + ones (get_or l j 0)
+set_whole l j h =
     let e : (j + 1) * 64 ≡ j * 64 + 64 = omega arith in
-    ap (set_below l) e ∙ set_in l j 64 (omega arith)
+    let low : get_or l j 0 < 2 ^ 64 = omega arith in
+    ap (set_below l) e ∙ set_in l j 64 (omega arith) ∙ ap (λ (w : ℕ). set_below l (j * 64) + ones w) (mod-eq_of_lt low)
 
 -- ---- the functions' own
 pub flag_read : (l : List ℕ) (i : ℕ) → bit_and (get_or l (i / 64) 0 / 2 ^ (i % 64)) 1 ≡ flag_at l i
@@ -179,24 +175,6 @@ power k h = shl_exact {a = 1} 1 k 64 (omega arith) (omega arith) ∙ once (2 ^ k
     once : (n : ℕ) → 1 * n ≡ n
     once n = omega arith
 
-pub rest_low : (i : ℕ) → i % 64 < 64
-rest_low i = mod-lt i pos
-  where
-    pos : 0 < 64
-    pos = omega arith
-
-module _ (l : List ℕ) (i : ℕ) where
-  pub one_in : i / 64 < length l → SetOne i l (set l (i / 64) (bit_or (get_or l (i / 64) 0) ((1 * 2 ^ (i % 64)) % 18446744073709551616)))
-  one_in h = record {
-    size = length-set l (i / 64) _;
-    at = λ k _. ap (λ (w : ℕ). flag_at (set l (i / 64) (bit_or (get_or l (i / 64) 0) w)) k) (power (i % 64) (rest_low i)) ∙ flag_set l i k h;
-  }
-
-  pub one_past : length l ≤ i / 64 → SetOne i l l
-  one_past h = record { size = refl; at = λ k b. pick_ne _ _ _ k i (λ e. absurd (let j = ap (λ (n : ℕ). n / 64) e in omega arith)) refl }
-
-pub ruleset one_laws = (one_in, one_past)
-
 -- each flag is 0 or 1
 bit_low : (k w : ℕ) → bit_at w k ≤ 1
 unfolding bit_at
@@ -208,109 +186,25 @@ unfolding set_below flag_at
 set_most l zero = omega arith
 set_most l (suc i) = let a = bit_low (i % 64) (get_or l (i / 64) 0) in let b = set_most l i in omega arith
 
-module _ (w : ℕ) (h : w < 18446744073709551616) where
-  pub ones_whole : ones w ≡ ones (w % 18446744073709551616)
-  ones_whole = ap ones (sym (mod-eq_of_lt h))
-
-  pub ones_most : ones w ≤ 64
-  ones_most = ones-le 64 w h
-
-  pub ones_fit : ones w < 18446744073709551616
-  ones_fit = let a = ones_most in omega arith
-
-  module _ (k : ℕ) (l : k < 64) where
-    pub mask_some : 1 ≤ (1 * 2 ^ k) % 18446744073709551616
-    mask_some = subst (λ (n : ℕ). 1 ≤ n) (sym (power k l)) (pow_pos k)
-
-    pub low_is : ones (bit_and w ((1 * 2 ^ k) % 18446744073709551616 - 1)) ≡ ones (w % 2 ^ k)
-    low_is = ap (λ (n : ℕ). ones (bit_and w (n - 1))) (power k l) ∙ ap ones (and_mask w k)
-
-  pub low_most : (m : ℕ) → ones (bit_and w m) ≤ 64
-  low_most m = let l = and_le_l w m in ones-le 64 (bit_and w m) (omega arith)
-
-  pub low_fits : (m : ℕ) → ones (bit_and w m) < 18446744073709551616
-  low_fits m = let a = low_most m in omega arith
-
-pub ruleset ones_laws = (ones_whole, ones_most, ones_fit, mask_some, low_is, low_most, low_fits)
-
-module _ (start : ℕ) (l ranks : List ℕ) (i : ℕ) (r : Ranked start l ranks) (within : i / 64 < length l) where
-  pub rank_fits : (x : ℕ) → x ≤ 64 → start ≤ 4294967296 → length l ≤ 65536 → get_or ranks (i / 64) 0 + x < 18446744073709551616
-  rank_fits x h low few =
-      let a = r.at (i / 64) within in
-      let b = set_most l (i / 64 * 64) in
-      omega arith
-
-  pub rank_is : (x : ℕ) → x ≡ ones (get_or l (i / 64) 0 % 2 ^ (i % 64)) → get_or ranks (i / 64) 0 + x ≡ start + set_below l i
-  rank_is x e =
-      let a = r.at (i / 64) within in
-      let b = set_is l i in
-      omega arith
-
-  pub rank_within : i / 64 < length ranks
-  rank_within = let a = r.size in omega arith
-
-pub ruleset rank_at_laws = (rank_fits, rank_is, rank_within, rest_low)
-
--- word after word
-pub record Ranking (l : List ℕ) (start n : ℕ) (ranks : List ℕ) (r j : ℕ) : Type 0 where
-  pub size : length ranks ≡ n
-  pub words : length l ≡ n
-  pub few : n ≤ 65536
-  pub low : start ≤ 4294967296
-  pub within : j ≤ n
-  pub rank : r ≡ start + set_below l (j * 64)
-  pub done : (k : ℕ) → k < j → get_or ranks k 0 ≡ start + set_below l (k * 64)
-
-pub ranking_start : (l : List ℕ) (start : ℕ) (ranks : List ℕ) → length l ≡ length ranks → length l ≤ 65536 → start ≤ 4294967296 → Ranking l start (length l) ranks start 0
+pub set_none : (l : List ℕ) → set_below l 0 ≡ 0
 unfolding set_below
-ranking_start l start ranks f g h = record { size = sym f; words = refl; few = g; low = h; within = omega arith; rank = omega arith; done = λ k i. absurd (omega arith) }
+set_none l = refl
 
-module _ (l : List ℕ) (start n : ℕ) (ranks : List ℕ) (r j : ℕ) (g : Ranking l start n ranks r j) where
-  pub ranking_write : j < n → j < length ranks
-  ranking_write h = let a = g.size in omega arith
-
-  pub ranking_eight : j * 8 < 18446744073709551616
-  ranking_eight = let a = g.within in let b = g.few in omega arith
-
-  pub ranking_add : (x : ℕ) → j < n → x ≤ 64 → r + x < 18446744073709551616
-  ranking_add x h w =
-      let a = g.rank in
-      let b = set_most l (j * 64) in
-      let d = g.few in
-      let e = g.low in
-      omega arith
-
-  pub ranking_one : j + 1 < 18446744073709551616
-  ranking_one = let a = g.within in let b = g.few in omega arith
-
-  pub ranking_next : (x : ℕ) → j < n → x ≡ ones (get_or l j 0 % 18446744073709551616) → Ranking l start n (set ranks j r) (r + x) (j + 1)
-  ranking_next x h w = record {
-    size = length-set ranks j r ∙ g.size;
-    words = g.words;
-    few = g.few;
-    low = g.low;
-    within = omega arith;
-    rank = let a = g.rank in let b = set_word l j in omega arith;
-    done = λ k i. by k i (eqb k j) refl;
+module _ (l : List ℕ) (i : ℕ) where
+  pub one_in : i / 64 < length l → SetOne i l (set l (i / 64) (bit_or (get_or l (i / 64) 0) ((1 * 2 ^ (i % 64)) % 18446744073709551616)))
+  one_in h = record {
+    size = length-set l (i / 64) _;
+    at = λ k _. ap (λ (w : ℕ). flag_at (set l (i / 64) (bit_or (get_or l (i / 64) 0) w)) k) (power (i % 64) (mod-lt i (lit< tt))) ∙ flag_set l i k h;
   }
-    where
-      by : (k : ℕ) → k < j + 1 → (b : Bool) → eqb k j ≡ b → get_or (set ranks j r) k 0 ≡ start + set_below l (k * 64)
-      by k i true e =
-          let z = eqb-true k j e in
-          let s = g.size in
-          ap (λ (m : ℕ). get_or (set ranks j r) m 0) z ∙ get_or-set_same ranks j r 0 (omega arith) ∙ g.rank ∙ ap (λ (m : ℕ). start + set_below l (m * 64)) (sym z)
-      by k i false e = let z = eqb-false k j e in get_or-set_other ranks j k r 0 z ∙ g.done k (low_of k i z)
-        where
-          low_of : (k : ℕ) → k < j + 1 → (k ≡ j → ⊥) → k < j
-          low_of k a z = omega arith
 
-  pub ranking_length : length ranks ≡ n
-  ranking_length = g.size
+  pub one_past : length l ≤ i / 64 → SetOne i l l
+  one_past h = record { size = refl; at = λ k b. pick_ne _ _ _ k i (λ e. absurd (let j = ap (λ (n : ℕ). n / 64) e in omega arith)) refl }
 
-  pub ranking_done : n ≤ j → n ≡ length l → r ≡ start + set_below l (length l * 64)
-  ranking_done h e = let a = g.within in let z : j ≡ length l = omega arith in g.rank ∙ ap (λ (m : ℕ). start + set_below l (m * 64)) z
+  -- those below the digit, as the code masks them out
+  pub set_masked : set_below l i ≡ set_below l (i / 64 * 64) + ones (bit_and (get_or l (i / 64) 0) ((1 * 2 ^ (i % 64)) % 18446744073709551616 - 1))
+  set_masked =
+      let m : i % 64 < 64 = mod-lt i (lit< tt) in
+      ap (set_below l) (sym (div-add-mod' i 64)) ∙ set_in l (i / 64) (i % 64) (omega arith)
+      ∙ ap (λ (w : ℕ). set_below l (i / 64 * 64) + ones w) (sym (and_mask (get_or l (i / 64) 0) (i % 64)) ∙ ap (λ (n : ℕ). bit_and (get_or l (i / 64) 0) (n - 1)) (sym (power (i % 64) m)))
 
-  pub ranking_all : n ≤ j → Ranked start l ranks
-  ranking_all h = let a = g.words in record { size = g.size ∙ sym g.words; at = λ k i. g.done k (omega arith) }
-
-pub ruleset rank_laws = (ranking_start, ranking_write, ranking_eight, ranking_add, ranking_one, ranking_next, ranking_length, ranking_done, ranking_all)
+pub ruleset flag_laws = (flag_read, one_past, set_none, set_most, set_masked)

@@ -1,199 +1,146 @@
 // Judging a formula whole: its tokens, the data after them, and its jumps.
 #![tactic(auto)]
 
-ghost use Rattle.std.specs.Prelude.{◌≡◌, ◌+◌, ◌^◌, ◌≤◌, ◌<◌, length};
+ghost use Rattle.std.specs.Prelude.{◌≡◌, ◌≤◌, ◌<◌, length, Ok};
 ghost use Rattle.tokens.specs.Tokens.{token_of};
-ghost use Rattle.jumps.specs.Jumps.{size_of};
+ghost use Rattle.jumps.specs.Jumps.{size_of, lands_of};
 ghost use Rattle.formula.specs.Judge.{data_by, data_of, judge_of};
-ghost use Rattle.formula.specs.Parts.{used_of, astray_of, seen_after, unless_left, verdict_of, SeenWithin, Right, RightVisit, VisitWithin};
+ghost use Rattle.formula.specs.Parts.{astray_after, seen_after, left, seen_is, rest_judged, Right, RightToken};
 
-use tokens::{Judgement, Token};
-use trailing::Data;
+use refusal::Refusal;
+use tokens::{Place, Token};
 
 // What was seen of the tokens so far.
 #[derive(Clone, Copy)]
-enum Seen {
-    // so many trailing bytes are used, and all jumps land
-    Used(usize),
-    // so many trailing bytes are used; the offset of the first token with a jump that doesn't land
-    Astray(usize, usize),
-    // where a token's data starts that is cut or bad
-    Spoilt(usize),
-}
-
-// What a token leads to: its bytes and what was seen with it; or there is none.
-#[derive(Clone, Copy)]
-enum Visit {
-    Next(usize, Seen),
-    End(Seen),
+struct Seen<'a> {
+    // the trailing bytes that are left
+    rest: &'a [u8],
+    // the offset of the first token with a jump that doesn't land
+    astray: Option<usize>,
 }
 
 // The data of a classified token as in 0x20 plus, with which d starts.
-fn data_by(id: u8, d: &[u8]) -> Data
+#[tactic(auto, using(steps::proofs::Choice::arms), unfolding(crate::specs::Judge::data_by))]
+fn data_by(id: u8, d: &[u8]) -> Option<usize>
     ensures { result ≡ data_by id d.now }
 {
     match id {
         0x20 => trailing::array(d),
         0x26 => trailing::areas(d),
-        _ => Data::Takes(0),
+        _ => Some(0),
     }
 }
 
 // The data of any token. Bits 5 and 6 of its byte are the operand class.
-fn data(byte: u8, d: &[u8]) -> Data
+#[tactic(auto, using(crate::proofs::OneToken::classes), unfolding(crate::specs::Judge::data_of))]
+fn data(byte: u8, d: &[u8]) -> Option<usize>
     ensures { result ≡ data_of byte d.now }
 {
-    if byte >> 5 == 0 {
-        return Data::Takes(0);
+    match byte >> 5 {
+        0 => Some(0),
+        _ => data_by(0x20 + (byte & 0x1F), d),
     }
-    data_by(0x20 + (byte & 0x1F), d)
 }
 
-// A token whose data starts at `at` of the trailing bytes, after which all jumps landed so far.
-fn after_used(t: &[u8], offset: usize, depth: u8, d: &[u8], at: usize) -> Seen
-    requires nonzero { 0 < size_of (token_of t.now offset depth) }
-    requires t_bound { offset + length t.now < 2 ^ 32 }
-    requires at_in_bounds { at ≤ length d.now }
-    ensures { result ≡ used_of t.now offset depth d.now at }
+#[tactic(auto, using(crate::proofs::OneToken::on_astray))]
+fn astray_after(place: Place, astray: Option<usize>) -> Option<usize>
+    requires { 0 < size_of (token_of place.bytes.now place.offset place.depth) }
+    ensures { result ≡ astray_after astray (lands_of place.entry.bytes.now place.entry.offset place.entry.depth) place.entry.offset }
 {
-    let found = data(t[0], &d[at..]);
-    match found {
-        Data::Takes(size) => {
-            if jumps::jumps_land(t, offset, depth) {
-                Seen::Used(at + size)
-            } else {
-                Seen::Astray(at + size, offset)
-            }
-        }
-        Data::Bad => Seen::Spoilt(at),
+    if astray.is_some() || jumps::jumps_land(place) {
+        return astray;
     }
+    Some(place.offset)
 }
 
-// A token after one with a jump that doesn't land.
-fn after_astray(t: &[u8], d: &[u8], at: usize, jump: usize) -> Seen
-    requires t_nonzero { 0 < length t.now }
-    requires at_in_bounds { at ≤ length d.now }
-    ensures { result ≡ astray_of t.now d.now at jump }
+// A token, after what was seen before it; or how many trailing bytes are left where its data is cut or bad.
+#[tactic(auto, using(crate::proofs::OneToken::on_data_lem))]
+fn after_token<'a>(place: Place, seen: Seen<'a>) -> Result<Seen<'a>, usize>
+    requires { 0 < size_of (token_of place.bytes.now place.offset place.depth) }
+    ensures { seen_is result ≡ seen_after place.entry.bytes.now place.entry.offset place.entry.depth (left seen.entry) }
 {
-    let found = data(t[0], &d[at..]);
-    match found {
-        Data::Takes(size) => Seen::Astray(at + size, jump),
-        Data::Bad => Seen::Spoilt(at),
-    }
+    let Some(size) = data(place.bytes[0], seen.rest) else {
+        return Err(seen.rest.len());
+    };
+    Ok(Seen {
+        rest: &seen.rest[size..],
+        astray: astray_after(place, seen.astray),
+    })
 }
 
-// A token: the one that t starts with.
-fn after_token(t: &[u8], offset: usize, depth: u8, d: &[u8], seen: Seen) -> Seen
-    requires nonzero { 0 < size_of (token_of t.now offset depth) }
-    requires t_bound { offset + length t.now < 2 ^ 32 }
-    requires seen_within { SeenWithin (length d.now) seen }
-    ensures value { result ≡ seen_after t.now offset depth d.now seen }
-    ensures within_after { SeenWithin (length d.now) result }
-{
-    match seen {
-        Seen::Used(at) => after_used(t, offset, depth, d, at),
-        Seen::Astray(at, jump) => after_astray(t, d, at, jump),
-        Seen::Spoilt(at) => Seen::Spoilt(at),
-    }
-}
-
-// The token that t starts with and those inside it. A memory token's inner bytes go to `visit_formula`.
+// A token and those inside it. A memory token's inner bytes go to `visit_formula`.
 #[cycle(visit_formula_visit_token)]
-fn visit_token(t: &[u8], offset: usize, depth: u8, d: &[u8], seen: Seen) -> Visit
-    requires t_nonzero { 0 < length t.now }
-    requires t_bound { offset + length t.now < 2 ^ 32 }
-    requires seen_within { SeenWithin (length d.now) seen }
-    ensures right_visit { RightVisit t.now offset depth d.now seen result }
-    ensures visit_within { VisitWithin (length t.now) (length d.now) result }
+#[tactic(auto, using(crate::proofs::Visits::on_token_lem))]
+fn visit_token<'a>(place: Place, token: Token, seen: Seen<'a>) -> Result<Seen<'a>, usize>
+    requires some { 0 < length place.bytes.now }
+    requires there { Ok token ≡ token_of place.bytes.now place.offset place.depth }
+    ensures { RightToken place.entry.bytes.now place.entry.offset place.entry.depth token (left seen.entry) (seen_is result) }
 {
-    let token = tokens::first_token(t, offset, depth);
+    let here = after_token(place, seen)?;
     match token {
-        Token::Plain(size, _, _) => {
-            let here = after_token(t, offset, depth, d, seen);
-            Visit::Next(size, here)
-        }
-        Token::Memory(size, head) => {
-            let here = after_token(t, offset, depth, d, seen);
-            let inside = visit_formula(&t[head..size], offset + head, depth + 1, d, here);
-            Visit::Next(size, inside)
-        }
-        Token::Invalid(_) => Visit::End(seen),
+        Token::Plain(_, _, _) => Ok(here),
+        Token::Memory(size, head) => visit_formula(place.inside(head, size), here),
     }
 }
 
-// The tokens of b, which starts at `base` of the outermost bytes, one after the other.
+// The tokens of a formula, one after the other.
 #[cycle(visit_formula_visit_token)]
-fn visit_formula(b: &[u8], base: usize, depth: u8, d: &[u8], seen: Seen) -> Seen
-    requires b_bound { base + length b.now < 2 ^ 32 }
-    requires seen_within { SeenWithin (length d.now) seen }
-    ensures right { Right b.now base depth d.now seen result }
-    ensures within_after { SeenWithin (length d.now) result }
+#[tactic(auto, using(crate::proofs::Visits::on_visit_lem))]
+fn visit_formula<'a>(formula: Place, before: Seen<'a>) -> Result<Seen<'a>, usize>
+    ensures { Right formula.entry.bytes.now formula.entry.offset formula.entry.depth (left before.entry) (seen_is result) }
 {
-    let mut at: usize = 0;
-    let mut so_far = seen;
-    while at < b.len() {
-        let visit = visit_token(&b[at..], base + at, depth, d, so_far);
-        match visit {
-            Visit::Next(size, next) => {
-                at += size;
-                so_far = next;
-            }
-            Visit::End(last) => {
-                return last;
-            }
-        }
-    }
-    so_far
-}
-
-// Trailing bytes that are left from `at` on are refused; `end` is where the tokens end. Else the answer stands.
-fn unless_left(d: &[u8], end: usize, at: usize, answer: Judgement) -> Judgement
-    requires { end < 2 ^ 32 }
-    ensures { result ≡ unless_left d.now end at answer }
-{
-    if at < d.len() {
-        return Judgement::Refused {
-            number: 13,
-            offset: end + at,
+    let mut place = formula;
+    let mut seen = before;
+    // Each token says how many bytes it takes up: the next one starts there, and no index is counted.
+    while !place.bytes.is_empty() {
+        let Ok(token) = place.first_token() else {
+            return Ok(seen);
         };
+        seen = visit_token(place, token, seen)?;
+        place = place.after(token.size());
     }
-    answer
+    Ok(seen)
 }
 
-// What was seen of all tokens, as an answer.
-fn verdict(d: &[u8], end: usize, seen: Seen) -> Judgement
-    requires end_bound { end < 2 ^ 32 }
-    requires seen_within { SeenWithin (length d.now) seen }
-    ensures { result ≡ verdict_of d.now end seen }
+// What was seen of all tokens, as an answer. `total` is how many bytes there are, the trailing ones included.
+#[tactic(auto, using(crate::proofs::Judged::on_verdict), unfolding(crate::specs::Parts::rest_judged))]
+fn verdict(total: usize, seen: Seen) -> Result<(), Refusal>
+    requires { length seen.rest.now ≤ total }
+    ensures { result ≡ rest_judged total (left seen.entry) }
 {
-    match seen {
-        Seen::Used(at) => unless_left(d, end, at, Judgement::Accepted),
-        Seen::Astray(at, jump) => unless_left(
-            d,
-            end,
-            at,
-            Judgement::Refused {
-                number: 13,
-                offset: jump,
-            },
-        ),
-        Seen::Spoilt(at) => Judgement::Refused {
+    if !seen.rest.is_empty() {
+        return Err(Refusal {
             number: 13,
-            offset: end + at,
-        },
+            offset: total - seen.rest.len(),
+        });
+    }
+    match seen.astray {
+        Some(offset) => Err(Refusal { number: 13, offset }),
+        None => Ok(()),
     }
 }
 
 // The answer for any tokens and any bytes after them.
-pub fn judge(tokens: &[u8], trailing: &[u8]) -> Judgement
+#[tactic(auto, using(crate::proofs::Judged::on_answer))]
+pub fn judge(tokens: &[u8], trailing: &[u8]) -> Result<(), Refusal>
     ensures { result ≡ judge_of tokens.now trailing.now }
 {
-    let first = tokens::judge_tokens(tokens);
-    match first {
-        Judgement::Accepted => {
-            let seen = visit_formula(tokens, 0, 0, trailing, Seen::Used(0));
-            verdict(trailing, tokens.len(), seen)
-        }
-        Judgement::Refused { number, offset } => Judgement::Refused { number, offset },
+    tokens::judge_tokens(tokens)?;
+    let formula = Place {
+        bytes: tokens,
+        offset: 0,
+        depth: 0,
+    };
+    let none = Seen {
+        rest: trailing,
+        astray: None,
+    };
+    let total = tokens.len() + trailing.len();
+    match visit_formula(formula, none) {
+        Ok(seen) => verdict(total, seen),
+        Err(left) => Err(Refusal {
+            number: 13,
+            offset: total - left,
+        }),
     }
 }

@@ -1,8 +1,7 @@
 -- Least and greatest argument counts. The members are those in source document 003, section 3.11, and the counts those of 001's Ftab.
-use Rattle.std.specs.Prelude.{ℕ, ◌≤◌, List, [], ◌∷◌, eqb}
+use Rattle.std.specs.Prelude.{ℕ, ◌≤◌, List, [], ◌∷◌, Option, Some, None, eqb}
 use Rattle.steps.specs.Choice.{pick}
 use Rattle.function_counts.specs.declared.Counts.{Counts}
-use Rattle.function_counts.specs.declared.Counts.TheVariants.{Missing, Range}
 
 -- a function's index, and the least and the greatest count of its arguments
 pub data Function : Type 0 where
@@ -262,14 +261,14 @@ functions =
     []
 
 -- the counts of the function with an index; an index that is not listed is no function's
-abbrev pub find : List Function → ℕ → Counts
-find [] index = Missing
-find ((i takes least to greatest) ∷ fs) index = pick (eqb index i) (Range least greatest) (find fs index)
+abbrev pub find : List Function → ℕ → Option Counts
+find [] index = None
+find ((i takes least to greatest) ∷ fs) index = pick (eqb index i) (Some (record { least = least; greatest = greatest })) (find fs index)
 
-unfoldable pub counts_of : ℕ → Counts
+unfoldable pub counts_of : ℕ → Option Counts
 counts_of index = find functions index
 
 -- the least is at most the greatest, and that at most 30
-abbrev pub Capped : Counts → Type 0
-Capped Missing = Unit
-Capped (Range least greatest) = (least ≤ greatest) × (greatest ≤ 30)
+abbrev pub Capped : Option Counts → Type 0
+Capped None = Unit
+Capped (Some c) = (c.least ≤ c.greatest) × (c.greatest ≤ 30)

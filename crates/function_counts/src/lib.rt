@@ -1,91 +1,400 @@
 // How many arguments a function takes, by its index.
 #![tactic(auto)]
 
-ghost use Rattle.std.specs.Prelude.{◌≡◌, ◌*◌, ◌<◌};
+ghost use Rattle.std.specs.Prelude.{◌≡◌};
 ghost use Rattle.function_counts.specs.Counts.{counts_of};
-ghost use Rattle.function_counts.specs.Parts.{entry_of, entries_from};
 
-// The counts of a function's arguments; Missing where no function has the index.
-#[derive(Clone, Copy)]
-pub enum Counts {
-    Missing,
-    Range { least: u8, greatest: u8 },
+// The counts of a function's arguments.
+#[derive(Clone, Copy, Debug, PartialEq, Eq)]
+pub struct Counts {
+    pub least: u8,
+    pub greatest: u8,
 }
 
-// The table: the entries of eight indices in a word, the first in its lowest byte. An entry has the greatest count in its lower five bits and the least
-// in its upper three; 0xFF where there is no function. Such a match is compiled to one read of 46 words, 368 bytes; an array would be built anew on the
-// stack for each look-up.
-fn eight_entries(group: u16) -> u64
-    ensures { result ≡ entries_from 8 (8 * group) }
-{
-    match group {
-        0 => 0x3E3E_3E3E_2121_233E,
-        1 => 0x2123_223E_5E00_0101,
-        2 => 0x2121_2121_0021_2121,
-        3 => 0x6342_4443_4221_2121,
-        4 => 0x4221_3E3E_0000_2121,
-        5 => 0x633E_6363_6363_6363,
-        6 => 0xFFFF_FF24_2424_2442,
-        7 => 0x0022_6366_6565_6565,
-        8 => 0x2122_2121_2163_6343,
-        9 => 0xFF65_2121_2100_2121,
-        10 => 0xFF21_FFFF_2143_FFFF,
-        11 => 0xFFFF_FFFF_FFFF_FFFF,
-        12 => 0xFF64_645E_2121_42FF,
-        13 => 0x21FF_22FF_FFFF_21FF,
-        14 => 0x8421_4222_2221_2121,
-        15 => 0x2121_2243_FFFF_2164,
-        16 => 0xFFFF_FFFF_2121_2121,
-        17 => 0x8463_2121_FFFF_FFFF,
-        18 => 0xFFFF_FF22_FFFF_FF85,
-        19 => 0xFFFF_FFFF_FFFF_FFFF,
-        20 => 0x86FF_4221_2121_FFFF,
-        21 => 0xFFFF_FFFF_FFFF_3E86,
-        22 => 0x3EFF_FFFF_FFFF_FFFF,
-        23 => 0xFF21_63FF_FFFF_FF21,
-        24 => 0x6321_2263_633E_3EFF,
-        25 => 0x8443_4322_FFFF_FFFF,
-        26 => 0x2121_4242_2163_2222,
-        27 => 0xFFA7_0043_45FF_FF43,
-        28 => 0x2121_213E_3EFF_FFFF,
-        29 => 0xFFFF_FFFF_6321_2121,
-        30 => 0x85FF_FF21_FFFF_FFFF,
-        31 => 0x3EFF_FF42_FFFF_FFFF,
-        32 => 0xFFFF_21FF_FFFF_FFFF,
-        33 => 0x2165_3EFF_FFFF_FFFF,
-        34 => 0x2163_6342_4242_8465,
-        35 => 0x6384_4221_2163_6363,
-        36 => 0x6321_8463_6363_8442,
-        37 => 0x4284_6363_4221_6321,
-        38 => 0x4242_6342_4242_4242,
-        39 => 0x3E3E_6484_4242_4242,
-        40 => 0x4242_4243_3E3E_3E3E,
-        41 => 0xFFFF_FF42_423E_4342,
-        42 => 0x2121_FFFF_FFFF_423E,
-        43 => 0x6384_FFFF_2142_435E,
-        44 => 0x225E_FFFF_FF22_4221,
-        45 => 0x3E3E_3E3E_3E3E_3E21,
-        _ => 0xFFFF_FFFF_FFFF_FFFF,
-    }
-}
-
-// The entry of any index.
-fn entry_at(index: u16) -> u64
-    ensures { (result ≡ entry_of (counts_of index)) × (result < 256) }
-{
-    (eight_entries(index / 8) >> (8 * (index % 8))) % 256
-}
+// The least and the greatest count by index, the least above the greatest where there is no function: 736 bytes, where an Option would take up half as much again.
+static COUNTS: [(u8, u8); 368] = [
+    (1, 30), // COUNT
+    (1, 3), // IF
+    (1, 1), // ISNA
+    (1, 1), // ISERROR
+    (1, 30), // SUM
+    (1, 30), // AVERAGE
+    (1, 30), // MIN
+    (1, 30), // MAX
+    (0, 1), // ROW
+    (0, 1), // COLUMN
+    (0, 0), // NA
+    (2, 30), // NPV
+    (1, 30), // STDEV
+    (1, 2), // DOLLAR
+    (1, 3), // FIXED
+    (1, 1), // SIN
+    (1, 1), // COS
+    (1, 1), // TAN
+    (1, 1), // ATAN
+    (0, 0), // PI
+    (1, 1), // SQRT
+    (1, 1), // EXP
+    (1, 1), // LN
+    (1, 1), // LOG10
+    (1, 1), // ABS
+    (1, 1), // INT
+    (1, 1), // SIGN
+    (2, 2), // ROUND
+    (2, 3), // LOOKUP
+    (2, 4), // INDEX
+    (2, 2), // REPT
+    (3, 3), // MID
+    (1, 1), // LEN
+    (1, 1), // VALUE
+    (0, 0), // TRUE
+    (0, 0), // FALSE
+    (1, 30), // AND
+    (1, 30), // OR
+    (1, 1), // NOT
+    (2, 2), // MOD
+    (3, 3), // DCOUNT
+    (3, 3), // DSUM
+    (3, 3), // DAVERAGE
+    (3, 3), // DMIN
+    (3, 3), // DMAX
+    (3, 3), // DSTDEV
+    (1, 30), // VAR
+    (3, 3), // DVAR
+    (2, 2), // TEXT
+    (1, 4), // LINEST
+    (1, 4), // TREND
+    (1, 4), // LOGEST
+    (1, 4), // GROWTH
+    (255, 0),
+    (255, 0),
+    (255, 0),
+    (3, 5), // PV
+    (3, 5), // FV
+    (3, 5), // NPER
+    (3, 5), // PMT
+    (3, 6), // RATE
+    (3, 3), // MIRR
+    (1, 2), // IRR
+    (0, 0), // RAND
+    (2, 3), // MATCH
+    (3, 3), // DATE
+    (3, 3), // TIME
+    (1, 1), // DAY
+    (1, 1), // MONTH
+    (1, 1), // YEAR
+    (1, 2), // WEEKDAY
+    (1, 1), // HOUR
+    (1, 1), // MINUTE
+    (1, 1), // SECOND
+    (0, 0), // NOW
+    (1, 1), // AREAS
+    (1, 1), // ROWS
+    (1, 1), // COLUMNS
+    (3, 5), // OFFSET
+    (255, 0),
+    (255, 0),
+    (255, 0),
+    (2, 3), // SEARCH
+    (1, 1), // TRANSPOSE
+    (255, 0),
+    (255, 0),
+    (1, 1), // TYPE
+    (255, 0),
+    (255, 0),
+    (255, 0),
+    (255, 0),
+    (255, 0),
+    (255, 0),
+    (255, 0),
+    (255, 0),
+    (255, 0),
+    (255, 0),
+    (2, 2), // ATAN2
+    (1, 1), // ASIN
+    (1, 1), // ACOS
+    (2, 30), // CHOOSE
+    (3, 4), // HLOOKUP
+    (3, 4), // VLOOKUP
+    (255, 0),
+    (255, 0),
+    (1, 1), // ISREF
+    (255, 0),
+    (255, 0),
+    (255, 0),
+    (1, 2), // LOG
+    (255, 0),
+    (1, 1), // CHAR
+    (1, 1), // LOWER
+    (1, 1), // UPPER
+    (1, 1), // PROPER
+    (1, 2), // LEFT
+    (1, 2), // RIGHT
+    (2, 2), // EXACT
+    (1, 1), // TRIM
+    (4, 4), // REPLACE
+    (3, 4), // SUBSTITUTE
+    (1, 1), // CODE
+    (255, 0),
+    (255, 0),
+    (2, 3), // FIND
+    (1, 2), // CELL
+    (1, 1), // ISERR
+    (1, 1), // ISTEXT
+    (1, 1), // ISNUMBER
+    (1, 1), // ISBLANK
+    (1, 1), // T
+    (1, 1), // N
+    (255, 0),
+    (255, 0),
+    (255, 0),
+    (255, 0),
+    (255, 0),
+    (255, 0),
+    (255, 0),
+    (255, 0),
+    (1, 1), // DATEVALUE
+    (1, 1), // TIMEVALUE
+    (3, 3), // SLN
+    (4, 4), // SYD
+    (4, 5), // DDB
+    (255, 0),
+    (255, 0),
+    (255, 0),
+    (1, 2), // INDIRECT
+    (255, 0),
+    (255, 0),
+    (255, 0),
+    (255, 0),
+    (255, 0),
+    (255, 0),
+    (255, 0),
+    (255, 0),
+    (255, 0),
+    (255, 0),
+    (255, 0),
+    (255, 0),
+    (255, 0),
+    (1, 1), // CLEAN
+    (1, 1), // MDETERM
+    (1, 1), // MINVERSE
+    (2, 2), // MMULT
+    (255, 0),
+    (4, 6), // IPMT
+    (4, 6), // PPMT
+    (1, 30), // COUNTA
+    (255, 0),
+    (255, 0),
+    (255, 0),
+    (255, 0),
+    (255, 0),
+    (255, 0),
+    (255, 0),
+    (255, 0),
+    (255, 0),
+    (255, 0),
+    (255, 0),
+    (255, 0),
+    (255, 0),
+    (1, 30), // PRODUCT
+    (1, 1), // FACT
+    (255, 0),
+    (255, 0),
+    (255, 0),
+    (255, 0),
+    (3, 3), // DPRODUCT
+    (1, 1), // ISNONTEXT
+    (255, 0),
+    (255, 0),
+    (1, 30), // STDEVP
+    (1, 30), // VARP
+    (3, 3), // DSTDEVP
+    (3, 3), // DVARP
+    (1, 2), // TRUNC
+    (1, 1), // ISLOGICAL
+    (3, 3), // DCOUNTA
+    (255, 0),
+    (255, 0),
+    (255, 0),
+    (255, 0),
+    (1, 2), // USDOLLAR
+    (2, 3), // FINDB
+    (2, 3), // SEARCHB
+    (4, 4), // REPLACEB
+    (1, 2), // LEFTB
+    (1, 2), // RIGHTB
+    (3, 3), // MIDB
+    (1, 1), // LENB
+    (2, 2), // ROUNDUP
+    (2, 2), // ROUNDDOWN
+    (1, 1), // ASC
+    (1, 1), // DBCS
+    (2, 3), // RANK
+    (255, 0),
+    (255, 0),
+    (2, 5), // ADDRESS
+    (2, 3), // DAYS360
+    (0, 0), // TODAY
+    (5, 7), // VDB
+    (255, 0),
+    (255, 0),
+    (255, 0),
+    (255, 0),
+    (1, 30), // MEDIAN
+    (1, 30), // SUMPRODUCT
+    (1, 1), // SINH
+    (1, 1), // COSH
+    (1, 1), // TANH
+    (1, 1), // ASINH
+    (1, 1), // ACOSH
+    (1, 1), // ATANH
+    (3, 3), // DGET
+    (255, 0),
+    (255, 0),
+    (255, 0),
+    (255, 0),
+    (255, 0),
+    (255, 0),
+    (255, 0),
+    (255, 0),
+    (1, 1), // INFO
+    (255, 0),
+    (255, 0),
+    (4, 5), // DB
+    (255, 0),
+    (255, 0),
+    (255, 0),
+    (255, 0),
+    (2, 2), // FREQUENCY
+    (255, 0),
+    (255, 0),
+    (1, 30), // User Defined Function
+    (255, 0),
+    (255, 0),
+    (255, 0),
+    (255, 0),
+    (255, 0),
+    (1, 1), // ERROR.TYPE
+    (255, 0),
+    (255, 0),
+    (255, 0),
+    (255, 0),
+    (255, 0),
+    (255, 0),
+    (255, 0),
+    (1, 30), // AVEDEV
+    (3, 5), // BETADIST
+    (1, 1), // GAMMALN
+    (3, 5), // BETAINV
+    (4, 4), // BINOMDIST
+    (2, 2), // CHIDIST
+    (2, 2), // CHIINV
+    (2, 2), // COMBIN
+    (3, 3), // CONFIDENCE
+    (3, 3), // CRITBINOM
+    (1, 1), // EVEN
+    (3, 3), // EXPONDIST
+    (3, 3), // FDIST
+    (3, 3), // FINV
+    (1, 1), // FISHER
+    (1, 1), // FISHERINV
+    (2, 2), // FLOOR
+    (4, 4), // GAMMADIST
+    (3, 3), // GAMMAINV
+    (2, 2), // CEILING
+    (4, 4), // HYPGEOMDIST
+    (3, 3), // LOGNORMDIST
+    (3, 3), // LOGINV
+    (3, 3), // NEGBINOMDIST
+    (4, 4), // NORMDIST
+    (1, 1), // NORMSDIST
+    (3, 3), // NORMINV
+    (1, 1), // NORMSINV
+    (3, 3), // STANDARDIZE
+    (1, 1), // ODD
+    (2, 2), // PERMUT
+    (3, 3), // POISSON
+    (3, 3), // TDIST
+    (4, 4), // WEIBULL
+    (2, 2), // SUMXMY2
+    (2, 2), // SUMX2MY2
+    (2, 2), // SUMX2PY2
+    (2, 2), // CHITEST
+    (2, 2), // CORREL
+    (2, 2), // COVAR
+    (3, 3), // FORECAST
+    (2, 2), // FTEST
+    (2, 2), // INTERCEPT
+    (2, 2), // PEARSON
+    (2, 2), // RSQ
+    (2, 2), // STEYX
+    (2, 2), // SLOPE
+    (4, 4), // TTEST
+    (3, 4), // PROB
+    (1, 30), // DEVSQ
+    (1, 30), // GEOMEAN
+    (1, 30), // HARMEAN
+    (1, 30), // SUMSQ
+    (1, 30), // KURT
+    (1, 30), // SKEW
+    (2, 3), // ZTEST
+    (2, 2), // LARGE
+    (2, 2), // SMALL
+    (2, 2), // QUARTILE
+    (2, 2), // PERCENTILE
+    (2, 3), // PERCENTRANK
+    (1, 30), // MODE
+    (2, 2), // TRIMMEAN
+    (2, 2), // TINV
+    (255, 0),
+    (255, 0),
+    (255, 0),
+    (1, 30), // CONCATENATE
+    (2, 2), // POWER
+    (255, 0),
+    (255, 0),
+    (255, 0),
+    (255, 0),
+    (1, 1), // RADIANS
+    (1, 1), // DEGREES
+    (2, 30), // SUBTOTAL
+    (2, 3), // SUMIF
+    (2, 2), // COUNTIF
+    (1, 1), // COUNTBLANK
+    (255, 0),
+    (255, 0),
+    (4, 4), // ISPMT
+    (3, 3), // DATEDIF
+    (1, 1), // DATESTRING
+    (2, 2), // NUMBERSTRING
+    (1, 2), // ROMAN
+    (255, 0),
+    (255, 0),
+    (255, 0),
+    (2, 30), // GETPIVOTDATA
+    (1, 2), // HYPERLINK
+    (1, 1), // PHONETIC
+    (1, 30), // AVERAGEA
+    (1, 30), // MAXA
+    (1, 30), // MINA
+    (1, 30), // STDEVPA
+    (1, 30), // VARPA
+    (1, 30), // STDEVA
+    (1, 30), // VARA
+];
 
 // The counts for any index.
-pub fn counts_at(index: u16) -> Counts
+#[tactic(auto, using(crate::proofs::Laws::counts_past, crate::proofs::Laws::counts_none, crate::proofs::Laws::counts_there))]
+pub fn counts_at(index: u16) -> Option<Counts>
     ensures { result ≡ counts_of index }
 {
-    let entry = entry_at(index);
-    if entry == 0xFF {
-        return Counts::Missing;
+    let at = usize::from(index);
+    if COUNTS.len() <= at {
+        return None;
     }
-    Counts::Range {
-        least: (entry / 32) as u8,
-        greatest: (entry % 32) as u8,
+    let (least, greatest) = COUNTS[at];
+    if least <= greatest {
+        return Some(Counts { least, greatest });
     }
+    None
 }

@@ -1,2 +1,3 @@
 pub mod Globals
 pub mod Sheets
+pub mod Left

@@ -2,6 +2,7 @@
 use Rattle.std.specs.Prelude.{ℕ, zero, suc, ◌+◌, ◌*◌, ◌^◌, Bool, true, false, List, length, ltb, leb, eqb}
 use Rattle.std.proofs.lemmas.List.Edits.{sets}
 use Rattle.steps.specs.Choice.{pick}
+use Rattle.journal.specs.declared.Entry.{Entry}
 use Rattle.byte_numbers.specs.Bytes.{u16_at, u32_at, u64_at, bytes_of}
 
 -- ---- the layout
@@ -20,18 +21,7 @@ count_in j = u32_at j 0
 abbrev pub entry_at : ℕ → ℕ
 entry_at i = 16 + i * 28
 
--- An entry. The old bytes and the new value stand in 8 bytes each, with zeros after them: as numbers of 8 bytes, the lower first.
-pub record Entry : Type 0 where
-  pub sheet : ℕ
-  pub row : ℕ
-  pub column : ℕ
-  -- number 0, index 1, truth 2, error 3
-  pub kind : ℕ
-  -- how many old bytes
-  pub width : ℕ
-  pub old : ℕ
-  pub new : ℕ
-
+-- An entry's old bytes and new value stand in 8 bytes each, with zeros after them: as numbers of 8 bytes, the lower first.
 -- sheet u32, row and column u16, value kind u16, old byte count u16, old bytes in 8, new value in 8
 unfoldable pub entry_in : List ℕ → ℕ → Entry
 entry_in j e = record { sheet = u32_at j e; row = u16_at j (e + 4); column = u16_at j (e + 6); kind = u16_at j (e + 8); width = u16_at j (e + 10); old = u64_at j (e + 12); new = u64_at j (e + 20) }

@@ -1,25 +1,23 @@
 -- Starting a journal, and a correction that writes its entry.
 -- u is the unique count of strings where the stream has no SST, t how many sheets the template has; both are 0 without a template.
-use Rattle.std.specs.Prelude.{ℕ, Bool, List, length, ltb, eqb}
+use Rattle.std.specs.Prelude.{ℕ, Bool, List, Result, Ok, Err, length, ltb, eqb}
 use Rattle.steps.specs.Choice.{pick}
+use Rattle.refusal.specs.declared.Refusal.{Refusal}
+use Rattle.refusal.specs.Refused.{refuse}
 use Rattle.byte_numbers.specs.Bytes.{num_at}
 use Rattle.number.specs.Float64.{bits_of}
 use Rattle.value.specs.declared.Field.{Field}
 use Rattle.value.specs.Value.{width_of}
 use Rattle.new_value.specs.declared.NewValue.{NewValue}
 use Rattle.new_value.specs.declared.NewValue.TheVariants.{Number, Text, Truth, Error}
-use Rattle.new_value.specs.declared.Plan.{Plan}
-use Rattle.new_value.specs.declared.Plan.TheVariants as plan
-use Rattle.new_value.specs.declared.Answer.{Answer}
-use Rattle.new_value.specs.declared.Answer.TheVariants as answer
 use Rattle.new_value.specs.Change.{plan_of}
 use Rattle.globals.specs.declared.Globals.{Globals}
 use Rattle.workbook.specs.Check.{checked_of, on_checked}
 use Rattle.correction.specs.declared.Aim.{Aim}
-use Rattle.correction.specs.declared.Aim.TheVariants as aim
 use Rattle.correction.specs.Correction.{Correction, refuses, writes}
 use Rattle.correction.specs.Parts.{aim_in}
-use Rattle.journal.specs.Entries.{header, Entry, journal_fits, room_for, logged}
+use Rattle.journal.specs.declared.Entry.{Entry}
+use Rattle.journal.specs.Entries.{header, journal_fits, room_for, logged}
 
 -- ---- starting
 pub data Start : Type 0 where
@@ -34,9 +32,9 @@ start_in unique n = pick (ltb n 16) (declines 12 0) (begins unique)
 unfoldable pub start_of : List ℕ → ℕ → ℕ → Start
 start_of s u n = on_checked declines (λ (g : Globals). start_in g.unique n) (checked_of s u)
 
-abbrev pub start_answer : Start → Answer
-start_answer (declines n o) = answer.Refused n o
-start_answer (begins unique) = answer.Granted
+abbrev pub start_answer : Start → Result (Unit {0}) Refusal
+start_answer (declines n o) = refuse n o
+start_answer (begins unique) = Ok tt
 
 abbrev pub started_journal : List ℕ → List ℕ → Start → List ℕ
 started_journal s j (declines n o) = j
@@ -44,22 +42,22 @@ started_journal s j (begins unique) = header (length s) unique j
 
 -- ---- a journalled correction
 -- the template's sheet: 17; no cell: 11; no room: 12; two or more cells: 16
-abbrev pub on_room : Bool → Aim → Aim
-on_room room (aim.Refused n o) = pick (eqb n 16) (pick room (aim.Refused n o) (aim.Refused 12 0)) (aim.Refused n o)
-on_room room (aim.At f p unique) = pick room (aim.At f p unique) (aim.Refused 12 0)
+abbrev pub on_room : Bool → Result Aim Refusal → Result Aim Refusal
+on_room room (Ok a) = pick room (Ok a) (refuse 12 0)
+on_room room (Err r) = pick (eqb r.number 16) (pick room (Err r) (refuse 12 0)) (Err r)
 
 -- in a stream that passes: 21, then those
-unfoldable pub spot_in : List ℕ → ℕ → ℕ → List ℕ → ℕ → ℕ → ℕ → Aim
-spot_in s unique t j n row column = pick (journal_fits j (length s) unique) (on_room (room_for j) (aim_in s unique t n row column)) (aim.Refused 21 0)
+unfoldable pub spot_in : List ℕ → ℕ → ℕ → List ℕ → ℕ → ℕ → ℕ → Result Aim Refusal
+spot_in s unique t j n row column = pick (journal_fits j (length s) unique) (on_room (room_for j) (aim_in s unique t n row column)) (refuse 21 0)
 
 -- then 17 and 18
-abbrev pub planned : Field → ℕ → Plan → Correction
-planned f p (plan.Put n) = writes f p n
-planned f p (plan.Refused n o) = refuses n o
+abbrev pub planned : Field → ℕ → Result ℕ Refusal → Correction
+planned f p (Ok n) = writes f p n
+planned f p (Err r) = refuses r.number r.offset
 
-abbrev pub on_spot : NewValue → Aim → Correction
-on_spot v (aim.Refused n o) = refuses n o
-on_spot v (aim.At f p unique) = planned f p (plan_of f v unique)
+abbrev pub on_spot : NewValue → Result Aim Refusal → Correction
+on_spot v (Ok a) = planned a.kind a.field (plan_of a.kind v a.unique)
+on_spot v (Err r) = refuses r.number r.offset
 
 unfoldable pub journalled_in : List ℕ → ℕ → ℕ → List ℕ → ℕ → ℕ → ℕ → NewValue → Correction
 journalled_in s unique t j n row column v = on_spot v (spot_in s unique t j n row column)

@@ -12,12 +12,12 @@ ghost use Rattle.pair_answers.specs.Answers.{answer_seen as pair_seen};
 ghost use Rattle.journal_answers.specs.Answers.{answer_seen, replay_seen, pair_replay_seen};
 
 use new_value::NewValue;
-use pair::PairCorrected;
-use pair_journal::PairReplayed;
+use pair::PairRefusal;
+use refusal::Refusal;
 use replay_entry::Replayed;
 
 #[repr(C)]
-#[derive(Clone, Copy)]
+#[derive(Clone, Copy, Default)]
 pub struct Answer {
     pub number: u8,
     pub offset: usize,
@@ -25,7 +25,7 @@ pub struct Answer {
 
 // How many entries were replayed, or the number of the entry that stopped it.
 #[repr(C)]
-#[derive(Clone, Copy)]
+#[derive(Clone, Copy, Default)]
 pub struct Outcome {
     pub number: u8,
     pub offset: usize,
@@ -34,7 +34,7 @@ pub struct Outcome {
 }
 
 #[repr(C)]
-#[derive(Clone, Copy)]
+#[derive(Clone, Copy, Default)]
 pub struct PairOutcome {
     pub whose: u8,
     pub number: u8,
@@ -44,39 +44,33 @@ pub struct PairOutcome {
 }
 
 // ---- one stream
-fn answer_seen(answer: new_value::Answer) -> Answer
+fn answer_seen(answer: Result<(), Refusal>) -> Answer
     ensures { result ≡ answer_seen answer }
 {
     match answer {
-        new_value::Answer::Granted => Answer {
-            number: 0,
-            offset: 0,
-        },
-        new_value::Answer::Refused { number, offset } => Answer { number, offset },
+        Ok(()) => Answer::default(),
+        Err(Refusal { number, offset }) => Answer { number, offset },
     }
 }
 
-fn replay_seen(answer: Replayed) -> Outcome
+fn replay_seen(answer: Result<Replayed, Refusal>) -> Outcome
     ensures { result ≡ replay_seen answer }
 {
     match answer {
-        Replayed::All(entries) => Outcome {
-            number: 0,
-            offset: 0,
-            stopped: false,
+        Ok(Replayed::All(entries)) => Outcome {
             entries,
+            ..Outcome::default()
         },
-        Replayed::Refused { number, offset } => Outcome {
+        Ok(Replayed::Stopped { number, entry }) => Outcome {
             number,
-            offset,
-            stopped: false,
-            entries: 0,
-        },
-        Replayed::Stopped { number, entry } => Outcome {
-            number,
-            offset: 0,
             stopped: true,
             entries: entry,
+            ..Outcome::default()
+        },
+        Err(Refusal { number, offset }) => Outcome {
+            number,
+            offset,
+            ..Outcome::default()
         },
     }
 }
@@ -111,47 +105,25 @@ pub fn replay(s: &mut [u8], j: &[u8], back: bool) -> Outcome
 }
 
 // ---- a session over a template
-fn pair_seen(answer: PairCorrected) -> pair_answers::Answer
-    ensures { result ≡ pair_seen answer }
-{
-    match answer {
-        PairCorrected::Granted => pair_answers::Answer {
-            whose: 2,
-            number: 0,
-            offset: 0,
-        },
-        PairCorrected::Refused { of, number, offset } => pair_answers::Answer {
-            whose: pair_answers::of_number(of),
-            number,
-            offset,
-        },
-    }
-}
-
-fn pair_replay_seen(answer: PairReplayed) -> PairOutcome
+fn pair_replay_seen(answer: Result<Replayed, PairRefusal>) -> PairOutcome
     ensures { result ≡ pair_replay_seen answer }
 {
     match answer {
-        PairReplayed::All(entries) => PairOutcome {
-            whose: 0,
-            number: 0,
-            offset: 0,
-            stopped: false,
+        Ok(Replayed::All(entries)) => PairOutcome {
             entries,
+            ..PairOutcome::default()
         },
-        PairReplayed::Refused { of, number, offset } => PairOutcome {
-            whose: pair_answers::of_number(of),
+        Ok(Replayed::Stopped { number, entry }) => PairOutcome {
             number,
-            offset,
-            stopped: false,
-            entries: 0,
-        },
-        PairReplayed::Stopped { number, entry } => PairOutcome {
-            whose: 0,
-            number,
-            offset: 0,
             stopped: true,
             entries: entry,
+            ..PairOutcome::default()
+        },
+        Err(refusal) => PairOutcome {
+            whose: pair_answers::of_number(refusal.of),
+            number: refusal.number,
+            offset: refusal.offset,
+            ..PairOutcome::default()
         },
     }
 }
@@ -160,7 +132,7 @@ pub fn pair_start(template: &[u8], session: &[u8], j: &mut [u8]) -> pair_answers
     ensures value { result ≡ pair_seen (pair_start_answer (pair_start_of template.now session.now (length j.old))) }
     ensures j_after { j.new ≡ journal_started session.now j.old (pair_start_of template.now session.now (length j.old)) }
 {
-    pair_seen(pair_journal::pair_start(template, session, j))
+    pair_answers::answer_seen(pair_journal::pair_start(template, session, j))
 }
 
 pub fn pair_correct(
@@ -176,7 +148,9 @@ pub fn pair_correct(
     ensures session_after { session.new ≡ session_after session.old (pair_journalled_of template.now session.old j.old sheet row column value) }
     ensures j_after { j.new ≡ pair_journal_after session.old j.old sheet row column value (pair_journalled_of template.now session.old j.old sheet row column value) }
 {
-    pair_seen(pair_journal::pair_journalled(template, session, j, sheet, row, column, value))
+    pair_answers::answer_seen(pair_journal::pair_journalled(
+        template, session, j, sheet, row, column, value,
+    ))
 }
 
 pub fn pair_replay(template: &[u8], session: &mut [u8], j: &[u8], back: bool) -> PairOutcome

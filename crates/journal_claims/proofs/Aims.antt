@@ -20,16 +20,18 @@ use Rattle.value.specs.declared.CellValue.{CellValue}
 use Rattle.value.specs.Value.{width_of, value_of}
 use Rattle.cell.specs.declared.Cell.{Cell}
 use Rattle.new_value.specs.declared.NewValue.{NewValue}
-use Rattle.new_value.specs.declared.Plan.{Plan}
-use Rattle.new_value.specs.declared.Plan.TheVariants as plan
 use Rattle.new_value.specs.Change.{plan_of}
 use Rattle.sheet_agreement.specs.Agreement.{Sheet}
 use Rattle.globals.specs.declared.Globals.{Globals}
 use Rattle.globals.specs.Sheets.{sheets_of}
-use Rattle.workbook.specs.declared.Checked.TheVariants.{Right}
+use Rattle.workbook.specs.Check.{Right}
 use Rattle.workbook.specs.Check.{checked_of}
 use Rattle.reading.specs.Reading.{listed_of}
-use Rattle.correction.specs.declared.Aim.TheVariants as aim
+use Rattle.refusal.specs.declared.Refusal.{Refusal}
+use Rattle.refusal.specs.Refused.{refuse}
+use Rattle.std.specs.Prelude.{Result, Ok, Err}
+use Rattle.correction.specs.declared.Aim.{Aim}
+use Rattle.journal_claims.proofs.Words.{aimed}
 use Rattle.correction.specs.Correction.{refuses, cells_at, on_plan, on_cells, no_sheet, correction_in}
 use Rattle.correction.specs.Parts.{target_of, on_target, aim_in}
 use Rattle.record_chain.specs.Chain.{Every, Beside, Nth}
@@ -63,9 +65,9 @@ stored_same (suc w) s p h =
     ∙ stored_same w s (suc p) h
 
 -- ---- a correction is what its aim comes to
-plan_same : (c : Cell) (y : Plan) → planned c.kind c.field y ≡ on_plan c y
-plan_same c (plan.Put n) = refl
-plan_same c (plan.Refused n o) = refl
+plan_same : (c : Cell) (y : Result ℕ Refusal) → planned c.kind c.field y ≡ on_plan c y
+plan_same c (Ok n) = refl
+plan_same c (Err r) = refl
 
 cells_same : (v : NewValue) (u : ℕ) (l : List Cell) → on_spot v (on_target u (target_of l)) ≡ on_cells v u l
 cells_same v u [] = refl
@@ -74,7 +76,7 @@ cells_same v u (c ∷ d ∷ l) = refl
 
 module _ (s : List ℕ) (u t n row column : ℕ) (v : NewValue) where
   sheets_same : (l : List Sheet) (m : ℕ)
-      → on_spot v (nth l m (λ (x : Sheet). on_target u (target_of (cells_at row column (listed_of s x)))) (aim.Refused (no_sheet t n) 0))
+      → on_spot v (nth l m (λ (x : Sheet). on_target u (target_of (cells_at row column (listed_of s x)))) (refuse (no_sheet t n) 0))
       ≡ nth l m (λ (x : Sheet). on_cells v u (cells_at row column (listed_of s x))) (refuses (no_sheet t n) 0)
   unfolding nth
   sheets_same [] m = refl
@@ -98,32 +100,36 @@ pub record Only (s : List ℕ) (n row column : ℕ) (f : Field) (p : ℕ) : Type
   pub field : cell.field ≡ p
 
 module _ (s : List ℕ) (u n row column : ℕ) (f : Field) (p q : ℕ) where
-  only_by : (x : Sheet) → Nth (sheets_of s) n x → (l : List Cell) → cells_at row column (listed_of s x) ≡ l → on_target u (target_of l) ≡ aim.At f p q → Only s n row column f p
+  only_by : (x : Sheet) → Nth (sheets_of s) n x → (l : List Cell) → cells_at row column (listed_of s x) ≡ l → on_target u (target_of l) ≡ aimed f p q → Only s n row column f p
   only_by x i [] e h = never (cc)
   only_by x i (c ∷ []) e h =
+      let q₀ = q in
       let q = at_place row column (listed_of s x) c [] e in
       let a = (subst (Every (λ (c : Cell). eqb c.row row && eqb c.column column ≡ true)) e (has_at row column (listed_of s x))).0 in
       let b = both_true (eqb c.row row) (eqb c.column column) a in
-      record { sheet = x; nth = i; cell = c; which = q.which; is = q.is; row_is = eqb-true c.row row b.0; column_is = eqb-true c.column column b.1; kind = cc; field = cc }
+      let same : ◌≡◌ {A = Aim} (record { kind = c.kind; field = c.field; unique = u }) (record { kind = f; field = p; unique = q₀ }) = cc in
+      record { sheet = x; nth = i; cell = c; which = q.which; is = q.is; row_is = eqb-true c.row row b.0; column_is = eqb-true c.column column b.1; kind = ap (λ (z : Aim). z.kind) same; field = ap (λ (z : Aim). z.field) same }
   only_by x i (c ∷ d ∷ l) e h = never (cc)
 
-  pub aimed_only : (t : ℕ) → aim_in s u t n row column ≡ aim.At f p q → Only s n row column f p
+  pub aimed_only : (t : ℕ) → aim_in s u t n row column ≡ aimed f p q → Only s n row column f p
   unfolding aim_in
   aimed_only t h =
-      nth_either (λ (x : Sheet). on_target u (target_of (cells_at row column (listed_of s x)))) (aim.Refused (no_sheet t n) 0) (aim.At f p q) (Only s n row column f p) (sheets_of s) n
+      nth_either (λ (x : Sheet). on_target u (target_of (cells_at row column (listed_of s x)))) (refuse (no_sheet t n) 0) (aimed f p q) (Only s n row column f p) (sheets_of s) n
       (λ x i e. only_by x i (cells_at row column (listed_of s x)) refl e) (λ _ e. never (cc)) h
 
 -- an aim has the unique count that it is asked with
 module _ (s : List ℕ) (u t n row column : ℕ) (f : Field) (p q : ℕ) where
-  unique_by : (l : List Cell) → on_target u (target_of l) ≡ aim.At f p q → q ≡ u
+  unique_by : (l : List Cell) → on_target u (target_of l) ≡ aimed f p q → q ≡ u
   unique_by [] h = never (cc)
-  unique_by (c ∷ []) h = cc
+  unique_by (c ∷ []) h =
+      let same : ◌≡◌ {A = Aim} (record { kind = c.kind; field = c.field; unique = u }) (record { kind = f; field = p; unique = q }) = cc in
+      ap (λ (z : Aim). z.unique) (sym same)
   unique_by (c ∷ d ∷ l) h = never (cc)
 
-  pub aimed_unique : aim_in s u t n row column ≡ aim.At f p q → q ≡ u
+  pub aimed_unique : aim_in s u t n row column ≡ aimed f p q → q ≡ u
   unfolding aim_in
   aimed_unique h =
-      nth_either (λ (x : Sheet). on_target u (target_of (cells_at row column (listed_of s x)))) (aim.Refused (no_sheet t n) 0) (aim.At f p q) (q ≡ u) (sheets_of s) n
+      nth_either (λ (x : Sheet). on_target u (target_of (cells_at row column (listed_of s x)))) (refuse (no_sheet t n) 0) (aimed f p q) (q ≡ u) (sheets_of s) n
       (λ x i e. unique_by (cells_at row column (listed_of s x)) e) (λ _ e. never (cc)) h
 
 abbrev pub one_placed : (s : List ℕ) (u n row column : ℕ) (f : Field) (p : ℕ) (g : Globals) → checked_of s u ≡ Right g → Only s n row column f p → (b : ℕ) → b < 256 ^ width_of f → Placed s u n f p b
@@ -153,7 +159,7 @@ module _ (row column p : ℕ) (v : CellValue) where
 
   aim_written : (u : ℕ) (l : List Cell) → on_target u (target_of (map (written p v) l)) ≡ on_target u (target_of l)
   aim_written u [] = refl
-  aim_written u (c ∷ []) = ap (λ (x : Frame). aim.At x.kind x.place u) (frame_kept p v c)
+  aim_written u (c ∷ []) = ap (λ (x : Frame). aimed x.kind x.place u) (frame_kept p v c)
   aim_written u (c ∷ d ∷ l) = refl
 
 -- ---- a number that is stored, right or not
@@ -193,8 +199,8 @@ module _ {s : List ℕ} {u n : ℕ} {f : Field} {p b : ℕ} (given : Placed s u 
   pub placed_aims : (q t m row column : ℕ) → aim_in s' q t m row column ≡ aim_in s q t m row column
   unfolding aim_in
   placed_aims q t m row column =
-      ap (λ (l : List Sheet). nth l m (λ (x : Sheet). on_target q (target_of (cells_at row column (listed_of s' x)))) (aim.Refused (no_sheet t m) 0)) (sym (stored_sheets given))
-      ∙ nth_same (λ (x : Sheet). on_target q (target_of (cells_at row column (listed_of s' x)))) (λ (x : Sheet). on_target q (target_of (cells_at row column (listed_of s x)))) (aim.Refused (no_sheet t m) 0) (sheets_of s) m
+      ap (λ (l : List Sheet). nth l m (λ (x : Sheet). on_target q (target_of (cells_at row column (listed_of s' x)))) (refuse (no_sheet t m) 0)) (sym (stored_sheets given))
+      ∙ nth_same (λ (x : Sheet). on_target q (target_of (cells_at row column (listed_of s' x)))) (λ (x : Sheet). on_target q (target_of (cells_at row column (listed_of s x)))) (refuse (no_sheet t m) 0) (sheets_of s) m
       (λ x i. ap (λ (l : List Cell). on_target q (target_of (cells_at row column l))) (listed_written m x i)
       ∙ ap (λ (l : List Cell). on_target q (target_of l)) (at_written row column p (value_of f b) (listed_of s x)) ∙ aim_written row column p (value_of f b) q (cells_at row column (listed_of s x)))
 

@@ -17,8 +17,9 @@ use Rattle.new_value.specs.declared.NewValue.{NewValue}
 use Rattle.globals.specs.declared.Globals.{Globals}
 use Rattle.workbook.specs.Check.{on_checked}
 use Rattle.correction.specs.declared.Aim.{Aim}
-use Rattle.correction.specs.declared.Aim.{Aim}
-use Rattle.correction.specs.declared.Aim.TheVariants as aim
+use Rattle.refusal.specs.declared.Refusal.{Refusal}
+use Rattle.refusal.specs.Refused.{refuse}
+use Rattle.std.specs.Prelude.{Result, Ok, Err}
 use Rattle.correction.specs.Parts.{aim_in}
 use Rattle.correction.specs.Correction.{refuses, writes, correction_in, correction_of, stream_after}
 use Rattle.passes_after.proofs.Stored.{number_now}
@@ -28,34 +29,35 @@ use Rattle.passes_after.specs.Granted.{Granted}
 use Rattle.passes_after.proofs.Granted.{granted}
 use Rattle.passes_after.proofs.Upheld.{stored}
 use Rattle.journal_claims.proofs.Aims.{aimed_correction}
-use Rattle.journal.specs.Entries.{count_in, entry_at, Entry, entry_in, journal_fits, room_for}
+use Rattle.journal.specs.declared.Entry.{Entry}
+use Rattle.journal.specs.Entries.{count_in, entry_at, entry_in, journal_fits, room_for}
 use Rattle.journal.specs.Journal.{on_room, spot_in, on_spot, journalled_in, journalled_of, entry_of}
 use Rattle.journal_claims.specs.Replayed.{Bytes, Sent, journalled, journal_next, Since, asked, AsUnjournalled, Both, BothLogged, SecondLogged, entry_with, Logs}
 use Rattle.journal_claims.proofs.Places.{formed_fits, put_else}
 use Rattle.journal_claims.proofs.Trip.{Keeping, keeping, logged_each}
 
 -- ---- with room, as without a journal
-room_same : (v : NewValue) (r : Bool) (a : Aim) → r ≡ true → on_spot v (on_room r a) ≡ on_spot v a
+room_same : (v : NewValue) (r : Bool) (a : Result Aim Refusal) → r ≡ true → on_spot v (on_room r a) ≡ on_spot v a
 unfolding pick
-room_same v r (aim.Refused n o) h = rw h (many (eqb n 16))
+room_same v r (Err e) h = rw h (many (eqb e.number 16))
   where
-    many : (c : Bool) → on_spot v (pick c (aim.Refused n o) (aim.Refused n o)) ≡ refuses n o
+    many : (c : Bool) → on_spot v (pick c (Err e) (Err e)) ≡ refuses e.number e.offset
     many true = refl
     many false = refl
-room_same v r (aim.At f p u) h = rw h refl
+room_same v r (Ok x) h = rw h refl
 
 module _ {u t : ℕ} {s₀ s j : List ℕ} (k : Keeping u t s₀ s j) (room : room_for j ≡ true) (x : Asked) where
   fits_now : journal_fits j (length s) k.globals.unique ≡ true
   fits_now = formed_fits j (length s) k.globals.unique k.formed
 
-  abbrev here : Aim
+  abbrev here : Result Aim Refusal
   here = aim_in s k.globals.unique t x.sheet x.row x.column
 
   pub unjournalled : journalled s u t j x ≡ outcome s u t x
   unfolding journalled_of journalled_in spot_in correction_of
   unjournalled =
-      ap (on_checked refuses (λ (g : Globals). on_spot x.value (pick (journal_fits j (length s) g.unique) (on_room (room_for j) (aim_in s g.unique t x.sheet x.row x.column)) (aim.Refused 21 0)))) k.now
-      ∙ ap (on_spot x.value) (sym (pick_true (on_room (room_for j) here) _ (aim.Refused 21 0) (journal_fits j (length s) k.globals.unique) fits_now refl))
+      ap (on_checked refuses (λ (g : Globals). on_spot x.value (pick (journal_fits j (length s) g.unique) (on_room (room_for j) (aim_in s g.unique t x.sheet x.row x.column)) (refuse 21 0)))) k.now
+      ∙ ap (on_spot x.value) (sym (pick_true (on_room (room_for j) here) _ (refuse 21 0) (journal_fits j (length s) k.globals.unique) fits_now refl))
       ∙ room_same x.value (room_for j) here room
       ∙ aimed_correction s k.globals.unique t x.sheet x.row x.column x.value
       ∙ sym (ap (on_checked refuses (λ (g : Globals). correction_in s g.unique t x.sheet x.row x.column x.value)) k.now)

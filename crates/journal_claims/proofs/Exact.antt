@@ -10,10 +10,10 @@ use Rattle.value.specs.Value.{width_of, value_of, value_fits, index_fits}
 use Rattle.cell.specs.declared.Cell.{Cell}
 use Rattle.sheet_agreement.specs.Agreement.{Sheet}
 use Rattle.globals.specs.declared.Globals.{Globals}
-use Rattle.globals.specs.declared.Ended.TheVariants as globals
+use Rattle.std.specs.Prelude.{Result, Ok}
+use Rattle.refusal.specs.declared.Refusal.{Refusal}
 use Rattle.globals.specs.Sheets.{sheets_of}
-use Rattle.workbook.specs.declared.Checked.TheVariants.{Right}
-use Rattle.workbook.specs.Check.{checked_of}
+use Rattle.workbook.specs.Check.{Right, checked_of}
 use Rattle.reading.specs.Reading.{listed_of}
 use Rattle.record_chain.specs.Chain.{Nth, first, next}
 use Rattle.record_chain.proofs.Sheets.{passing}
@@ -61,7 +61,7 @@ module _ {s : List ℕ} {u n : ℕ} {f : Field} {p b : ℕ} (given : Placed s u 
   same_globals =
       let i = (passing s' u h ok).globals in
       let j = stored_globals given in
-      let e : globals.At h ≡ globals.At given.globals = sym i ∙ j in
+      let e : ◌≡◌ {A = Result Globals Refusal} (Ok h) (Ok given.globals) = sym i ∙ j in
       cc
 
   pub fits_after : Fits f given.globals.unique b

@@ -1,3 +1,4 @@
+pub mod Words
 pub mod Aims
 pub mod Right
 pub mod Unique

@@ -10,7 +10,8 @@ use lib.Seq.{length-sets}
 use Rattle.steps.proofs.Choice.{pick_true, pick_eq, pick_nlt}
 use Rattle.byte_numbers.specs.Bytes.{num_at, u32_at, bytes_of}
 use Rattle.byte_numbers.proofs.Laws.{num_same, num_stored, stored_other}
-use Rattle.journal.specs.Entries.{put, header, count_in, entry_at, Entry, entry_in, entered, fits_at, entries_fit, journal_fits, logged}
+use Rattle.journal.specs.declared.Entry.{Entry}
+use Rattle.journal.specs.Entries.{put, header, count_in, entry_at, entry_in, entered, fits_at, entries_fit, journal_fits, logged}
 use Rattle.journal.specs.EntryParts.{Room}
 use Rattle.journal_claims.specs.Replayed.{Small, Well}
 

@@ -22,22 +22,22 @@ use Rattle.cell.specs.declared.Shape.{Shape}
 use Rattle.cell.specs.declared.Shape.TheVariants.{BLANK, NUMBER, RK, LABELSST, BOOLERR, MULRK, MULBLANK, FORMULA, OTHER}
 use Rattle.cell.specs.declared.Cell.{Cell}
 use Rattle.cell.specs.declared.Found.{Found}
-use Rattle.cell.specs.declared.Found.TheVariants.{There, Absent}
-use Rattle.cell.specs.declared.Judged.{Judged}
-use Rattle.cell.specs.declared.Judged.TheVariants as judged
+use Rattle.std.specs.Prelude.{Option, None, Some, Result, Ok, Err}
+use Rattle.refusal.specs.declared.Refusal.{Refusal}
+use Rattle.sheet_agreement.specs.declared.SheetKind.TheVariants.{Worksheet}
+use Rattle.sheet_agreement.specs.Agreement.{same_kind}
+use Rattle.sheet_agreement.proofs.Laws.{same_kind-true}
 use Rattle.cell.specs.Cells.{shape_of, field_of, part_of, row_at, first_at, count_of, field_at, cell_from, cell_of, found_of, fields_fit, judge_of}
 use Rattle.cell.proofs.Sizes.{sized_below}
 use Rattle.record_after.specs.Claims.{Right}
 use Rattle.record_after.proofs.Records as records
 use Rattle.substream.specs.declared.Here.{Here}
-use Rattle.substream.specs.declared.Step.TheVariants.{Stop}
-use Rattle.substream.specs.declared.Ended.TheVariants.{At, Refused}
 use Rattle.substream.specs.Substream.{on_judged, record_in, on_header, step_of, turn, records_from, substream_in}
 use Rattle.substream.proofs.Laws.{from_stop, onward}
 use Rattle.sheet_agreement.specs.Agreement.{Sheet}
 use Rattle.globals.specs.declared.Globals.{Globals}
 use Rattle.globals.specs.Sheets.{sheets_of}
-use Rattle.workbook.specs.declared.Checked.TheVariants as checked
+use Rattle.workbook.specs.Check as checked
 use Rattle.workbook.specs.Check.{checked_of}
 use Rattle.reading.specs.declared.Place.{Place}
 use Rattle.reading.specs.Cells as cells
@@ -55,9 +55,9 @@ use Rattle.journal_claims.specs.Replayed.{Bytes}
 use Rattle.passes_after.proofs.Stored.{has_cell, NotOther, cell_judged}
 
 -- a record that holds no cell isn't judged
-other_not : (s : List ℕ) (h : Shape) (at z u m o : ℕ) → h ≡ OTHER → judge_of s h at z u ≡ judged.Refused m o → ⊥
+other_not : (s : List ℕ) (h : Shape) (at z u : ℕ) (r : Refusal) → h ≡ OTHER → judge_of s h at z u ≡ Err r → ⊥
 unfolding judge_of pick
-other_not s h at z u m o q k = let i : judge_of s OTHER at z u ≡ judged.Refused m o = subst (λ (x : Shape). judge_of s x at z u ≡ judged.Refused m o) q k in never (cc)
+other_not s h at z u r q k = let i : judge_of s OTHER at z u ≡ Err r = subst (λ (x : Shape). judge_of s x at z u ≡ Err r) q k in never (cc)
 
 -- ---- a record directly in a worksheet whose walk comes to its end: it isn't refused
 module _ (s : List ℕ) (u to at t z e : ℕ) (is : header_at s at ≡ Record t z e) where
@@ -65,20 +65,20 @@ module _ (s : List ℕ) (u to at t z e : ℕ) (is : header_at s at ≡ Record t 
   unfolding step_of record_in pick
   step_is h q = ap (on_header s 0x0010 u h) (ap (header_at s) q ∙ is) ∙ ap (λ (x : ℕ). on_judged s 0x0010 h t z e (judge_of s (shape_of t) x z u)) q
 
-  passed_by : (h : Here) → h.at ≡ at → records_from (substream_in 3 s u 0x0020) s 0x0010 u h ≡ At to → (x : Judged) → judge_of s (shape_of t) at z u ≡ x → (m o : ℕ) → x ≡ judged.Refused m o → ⊥
-  passed_by h q r x i m o j =
-      let k : step_of s 0x0010 u h ≡ Stop m o = step_is h q ∙ ap (on_judged s 0x0010 h t z e) (i ∙ j) in
-      let l = from_stop (substream_in 3 s u 0x0020) s (onward 3 s u 0x0020) 0x0010 u h (Refused m o) (ap (turn (substream_in 3 s u 0x0020)) k) in
-      let n : At to ≡ Refused m o = sym r ∙ l in
+  passed_by : (h : Here) → h.at ≡ at → records_from (substream_in 3 s u 0x0020) s 0x0010 u h ≡ Ok to → (r : Refusal) → judge_of s (shape_of t) at z u ≡ Err r → ⊥
+  passed_by h q i r j =
+      let k : step_of s 0x0010 u h ≡ Err r = step_is h q ∙ ap (on_judged s 0x0010 h t z e) j in
+      let l = from_stop (substream_in 3 s u 0x0020) s (onward 3 s u 0x0020) 0x0010 u h (Err r) (ap (turn (substream_in 3 s u 0x0020)) k) in
+      let n : Ok to ≡ Err r = sym i ∙ l in
       never (cc)
 
-  not_refused : (l : ℕ) → l ≡ 0 → Inside s u to l at → (m o : ℕ) → judge_of s (shape_of t) at z u ≡ judged.Refused m o → ⊥
-  not_refused l q (sheet h i j r) m o k = passed_by h j r (judge_of s (shape_of t) at z u) refl m o k
-  not_refused l q (chart a d f h i j n r x) m o k = absurd (omega arith)
-  not_refused l q (plain f p i) m o k =
+  not_refused : (l : ℕ) → l ≡ 0 → Inside s u to l at → (r : Refusal) → judge_of s (shape_of t) at z u ≡ Err r → ⊥
+  not_refused l q (sheet h i j w) r k = passed_by h j w r k
+  not_refused l q (chart a d f h i j n w x) r k = absurd (omega arith)
+  not_refused l q (plain f p i) r k =
       let y = p.over.is in
       let j : p.over.type ≡ t = cc in
-      other_not s (shape_of t) at z u m o (ap shape_of (sym j) ∙ p.other) k
+      other_not s (shape_of t) at z u r (ap shape_of (sym j) ∙ p.other) k
 
 -- ---- a record that has a cell is judged
 -- a listed cell whose record passes
@@ -93,13 +93,13 @@ pub record RightCell (s : List ℕ) (u : ℕ) (c : Cell) : Type 0 where
   pub is : c ≡ cell_of s (field_of shape) at part
 
 right_by : (s : List ℕ) (u : ℕ) (h : Shape) (at z k : ℕ) (c : Cell) → k < count_of h s at z → c ≡ cell_of s (field_of h) at k
-    → ((m o : ℕ) → judge_of s h at z u ≡ judged.Refused m o → ⊥) → (x : Judged) → judge_of s h at z u ≡ x → RightCell s u c
-right_by s u h at z k c l e un (judged.Passed n) i =
+    → ((r : Refusal) → judge_of s h at z u ≡ Err r → ⊥) → (x : Result (Option ℕ) Refusal) → judge_of s h at z u ≡ x → RightCell s u c
+right_by s u h at z k c l e un (Ok (Some n)) i =
     let r = records.right s h at z u n i in
     let q = r.count in
     record { shape = h; at = at; size = z; part = k; count = n; right = r; below = omega arith; is = e }
-right_by s u h at z k c l e un (judged.Refused m o) i = absurd (un m o i)
-right_by s u h at z k c l e un judged.Other i = absurd (subst NotOther i (cell_judged h s at z u (has_cell h s at z k l)))
+right_by s u h at z k c l e un (Err r) i = absurd (un r i)
+right_by s u h at z k c l e un (Ok None) i = absurd (subst NotOther i (cell_judged h s at z u (has_cell h s at z k l)))
 
 -- ---- the listing
 abbrev NoCell : Item Place Cell → Type 0
@@ -122,11 +122,11 @@ module _ (s : List ℕ) (u from to : ℕ) where
   none_gives (skips t) h = tt
   none_gives ends h = tt
 
-  gives_found : (v : Place) (t z e : ℕ) → header_at s v.at ≡ Record t z e → v.level ≡ 0 → Inside s u to v.level v.at → (x : Found) → found_of s (shape_of t) v.at z v.part ≡ x → Gives (on_found v t e x)
-  gives_found v t z e is q i (There c left) h =
-      let f = found_there s (shape_of t) v.at z v.part c left h in
-      right_by s u (shape_of t) v.at z v.part c f.below f.cell (not_refused s u to v.at t z e is v.level q i) (judge_of s (shape_of t) v.at z u) refl
-  gives_found v t z e is q i Absent h = none_gives (other_item v t e) (other_none v t e)
+  gives_found : (v : Place) (t z e : ℕ) → header_at s v.at ≡ Record t z e → v.level ≡ 0 → Inside s u to v.level v.at → (x : Option Found) → found_of s (shape_of t) v.at z v.part ≡ x → Gives (on_found v t e x)
+  gives_found v t z e is q i (Some x) h =
+      let f = found_there s (shape_of t) v.at z v.part x h in
+      right_by s u (shape_of t) v.at z v.part x.cell f.below f.cell (not_refused s u to v.at t z e is v.level q i) (judge_of s (shape_of t) v.at z u) refl
+  gives_found v t z e is q i None h = none_gives (other_item v t e) (other_none v t e)
 
   gives_header : (v : Place) → Inside s u to v.level v.at → (x : Header) → header_at s v.at ≡ x → Gives (cells.on_header s v x)
   unfolding record_item
@@ -151,8 +151,8 @@ module _ (s : List ℕ) (u from to : ℕ) where
 sheet_right : (s : List ℕ) (g : Globals) (x : Sheet) (i : SheetStands s g x) → Every (RightCell s g.unique) (listed_of s x)
 unfolding start_by
 sheet_right s g x i =
-    pick_by (λ (v : Place). Every (RightCell s g.unique) (listed_from s v)) (eqb x.kind 1)
-    (λ q. right_listed s g.unique x.position i.end (place_at (x.position + 20) 0) (sheet_start s g x i (eqb-true x.kind 1 q)))
+    pick_by (λ (v : Place). Every (RightCell s g.unique) (listed_from s v)) (same_kind x.kind Worksheet)
+    (λ q. right_listed s g.unique x.position i.end (place_at (x.position + 20) 0) (sheet_start s g x i (same_kind-true x.kind Worksheet q)))
     (λ _. subst (Every (RightCell s g.unique)) (sym (listed_none s (length s) (omega arith))) tt)
 
 pub cell_right : (s : List ℕ) (u : ℕ) (g : Globals) → checked_of s u ≡ checked.Right g → (m : ℕ) (x : Sheet) → Nth (sheets_of s) m x → (i : ℕ) (c : Cell) → Nth (listed_of s x) i c → RightCell s g.unique c

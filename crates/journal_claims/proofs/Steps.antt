@@ -18,18 +18,18 @@ use Rattle.value.specs.declared.Field.TheVariants.{NoField, Float, RkWord, TextI
 use Rattle.value.specs.Value.{width_of, value_fits, index_fits}
 use Rattle.new_value.specs.declared.NewValue.{NewValue}
 use Rattle.new_value.specs.declared.NewValue.TheVariants.{Number, Text, Truth, Error}
-use Rattle.new_value.specs.declared.Plan.{Plan}
-use Rattle.new_value.specs.declared.Plan.TheVariants as plan
 use Rattle.new_value.specs.Change.{text_plan, pair_plan, plan_of}
 use Rattle.truth_error.specs.Boolerr.{is_truth, is_error}
 use Rattle.new_value.specs.Change.{Held}
 use Rattle.globals.specs.declared.Globals.{Globals}
-use Rattle.workbook.specs.declared.Checked.{Checked}
-use Rattle.workbook.specs.declared.Checked.TheVariants.{Right, Wrong}
+use Rattle.workbook.specs.Check.{Checked}
+use Rattle.workbook.specs.Check.{Right}
 use Rattle.workbook.specs.Check.{checked_of, on_checked}
 use Rattle.correction.specs.declared.Aim.{Aim}
-use Rattle.correction.specs.declared.Aim.{Aim}
-use Rattle.correction.specs.declared.Aim.TheVariants as aim
+use Rattle.refusal.specs.declared.Refusal.{Refusal}
+use Rattle.refusal.specs.Refused.{refuse}
+use Rattle.std.specs.Prelude.{Result, Ok, Err}
+use Rattle.journal_claims.proofs.Words.{aimed}
 use Rattle.correction.specs.Parts.{aim_in}
 use Rattle.correction.specs.Correction.{refuses, writes, stream_after}
 use Rattle.passes_after.specs.Stored.{Fits, Stored}
@@ -37,8 +37,8 @@ use Rattle.passes_after.proofs.Upheld.{plan_fits, plan_plain}
 use Rattle.passes_after.proofs.Stored.{number_now}
 use Rattle.either_order.proofs.Sets.{stored_over}
 use Rattle.journal_claims.proofs.Aims.{stored_same, Only, aimed_only, one_stored, aimed_unique, aim_stays}
-use Rattle.journal.specs.Entries.{count_in, entry_at, Entry, number_fits, counts_fit, entry_fits, journal_fits, room_for}
-use Rattle.journal.proofs.Laws.{width_small}
+use Rattle.journal.specs.declared.Entry.{Entry}
+use Rattle.journal.specs.Entries.{count_in, entry_at, number_fits, counts_fit, entry_fits, journal_fits, room_for}
 use Rattle.journal.specs.EntryParts.{Room}
 use Rattle.journal.specs.Journal.{on_room, spot_in, planned, on_spot, journalled_in, journalled_of, kind_of, number_of, entry_of}
 use Rattle.replay_entry.specs.Steps.{entry_plan, holds, on_make, on_undo, passes_in, make_at, undo_at, make_of, undo_of}
@@ -50,45 +50,45 @@ pub record Journals (s : List ℕ) (u t : ℕ) (j : List ℕ) (n row column : �
   pub globals : Globals
   pub passes : checked_of s u ≡ Right globals
   pub room : room_for j ≡ true
-  pub aims : aim_in s globals.unique t n row column ≡ aim.At f p globals.unique
-  pub plan : plan_of f v globals.unique ≡ plan.Put b
+  pub aims : aim_in s globals.unique t n row column ≡ aimed f p globals.unique
+  pub plan : plan_of f v globals.unique ≡ Ok b
 
 module _ (s : List ℕ) (u t : ℕ) (j : List ℕ) (n row column : ℕ) (v : NewValue) (f : Field) (p b : ℕ) where
   abbrev Goal : Type 0
   Goal = Journals s u t j n row column v f p b
 
   module _ (g : Globals) (ok : checked_of s u ≡ Right g) where
-    by_plan : (k : Field) (q : ℕ) → room_for j ≡ true → aim_in s g.unique t n row column ≡ aim.At k q g.unique → (y : Plan) → plan_of k v g.unique ≡ y → planned k q y ≡ writes f p b → Goal
-    by_plan k q r a (plan.Put m) i h =
+    by_plan : (k : Field) (q : ℕ) → room_for j ≡ true → aim_in s g.unique t n row column ≡ aimed k q g.unique → (y : Result ℕ Refusal) → plan_of k v g.unique ≡ y → planned k q y ≡ writes f p b → Goal
+    by_plan k q r a (Ok m) i h =
         let d : k ≡ f = cc in
         let e : q ≡ p = cc in
         let o : m ≡ b = cc in
-        record { globals = g; passes = ok; room = r; aims = a ∙ ap₂ (λ (x : Field) (y : ℕ). aim.At x y g.unique) d e; plan = ap (λ (x : Field). plan_of x v g.unique) (sym d) ∙ i ∙ ap plan.Put o }
-    by_plan k q r a (plan.Refused m o) i h = never (cc)
+        record { globals = g; passes = ok; room = r; aims = a ∙ ap₂ (λ (x : Field) (y : ℕ). aimed x y g.unique) d e; plan = ap (λ (x : Field). plan_of x v g.unique) (sym d) ∙ i ∙ ap (λ (z : ℕ). Ok z) o }
+    by_plan k q r a (Err e) i h = never (cc)
 
-    by_many : (m o : ℕ) (c r : Bool) → on_spot v (pick c (pick r (aim.Refused m o) (aim.Refused 12 0)) (aim.Refused m o)) ≡ writes f p b → Goal
+    by_many : (e : Refusal) (c r : Bool) → on_spot v (pick c (pick r (Err e) (refuse 12 0)) (Err e)) ≡ writes f p b → Goal
     unfolding pick
-    by_many m o true true h = never (cc)
-    by_many m o true false h = never (cc)
-    by_many m o false r h = never (cc)
+    by_many e true true h = never (cc)
+    by_many e true false h = never (cc)
+    by_many e false r h = never (cc)
 
-    by_room : (a : Aim) → aim_in s g.unique t n row column ≡ a → (r : Bool) → room_for j ≡ r → on_spot v (on_room r a) ≡ writes f p b → Goal
+    by_room : (a : Result Aim Refusal) → aim_in s g.unique t n row column ≡ a → (r : Bool) → room_for j ≡ r → on_spot v (on_room r a) ≡ writes f p b → Goal
     unfolding pick
-    by_room (aim.Refused m o) a r i h = by_many m o (eqb m 16) r h
-    by_room (aim.At k q u₁) a true i h =
-        let e = aimed_unique s g.unique t n row column k q u₁ a in
-        by_plan k q i (a ∙ ap (aim.At k q) e) (plan_of k v g.unique) refl (subst (λ (y : ℕ). planned k q (plan_of k v y) ≡ writes f p b) e h)
-    by_room (aim.At k q u₁) a false i h = never (cc)
+    by_room (Err x) a r i h = by_many x (eqb x.number 16) r h
+    by_room (Ok x) a true i h =
+        let e = aimed_unique s g.unique t n row column x.kind x.field x.unique a in
+        by_plan x.kind x.field i (a ∙ ap (aimed x.kind x.field) e) (plan_of x.kind v g.unique) refl (subst (λ (y : ℕ). planned x.kind x.field (plan_of x.kind v y) ≡ writes f p b) e h)
+    by_room (Ok x) a false i h = never (cc)
 
-    by_form : (c : Bool) → on_spot v (pick c (on_room (room_for j) (aim_in s g.unique t n row column)) (aim.Refused 21 0)) ≡ writes f p b → Goal
+    by_form : (c : Bool) → on_spot v (pick c (on_room (room_for j) (aim_in s g.unique t n row column)) (refuse 21 0)) ≡ writes f p b → Goal
     unfolding pick
     by_form true h = by_room (aim_in s g.unique t n row column) refl (room_for j) refl h
     by_form false h = never (cc)
 
   by_checked : (x : Checked) → checked_of s u ≡ x
-      → on_checked refuses (λ (g : Globals). on_spot v (pick (journal_fits j (length s) g.unique) (on_room (room_for j) (aim_in s g.unique t n row column)) (aim.Refused 21 0))) x ≡ writes f p b → Goal
-  by_checked (Right g) i h = by_form g i (journal_fits j (length s) g.unique) h
-  by_checked (Wrong m o) i h = never (cc)
+      → on_checked refuses (λ (g : Globals). on_spot v (pick (journal_fits j (length s) g.unique) (on_room (room_for j) (aim_in s g.unique t n row column)) (refuse 21 0))) x ≡ writes f p b → Goal
+  by_checked (Ok g) i h = by_form g i (journal_fits j (length s) g.unique) h
+  by_checked (Err r) i h = never (cc)
 
   pub journals : journalled_of s u t j n row column v ≡ writes f p b → Goal
   unfolding journalled_of journalled_in spot_in
@@ -159,8 +159,16 @@ new_small (Truth t) h = omega arith
 new_small (Error e) h = omega arith
 
 -- the form of an entry whose plan puts a number
-wrong : {A : Type 0} {n o b : ℕ} → plan.Refused n o ≡ plan.Put b → A
+wrong : {A : Type 0} {n o b : ℕ} → ◌≡◌ {A = Result ℕ Refusal} (refuse n o) (Ok b) → A
 wrong h = never (cc)
+
+width_small : (k : Field) → width_of k ≤ 8
+width_small NoField = omega arith
+width_small Float = omega arith
+width_small RkWord = omega arith
+width_small TextIndex = omega arith
+width_small TruthError = omega arith
+width_small StoredResult = omega arith
 
 index_well : (old new : ℕ) → old < 4294967296 → new < 4294967296 → counts_fit 4 4 4 old new ≡ true
 unfolding counts_fit pick
@@ -174,7 +182,7 @@ number_well : (old : ℕ) → old < 4294967296 → number_fits 4 old ≡ true
 unfolding number_fits pick
 number_well old l = rw (lt-ltb old 4294967296 l) refl
 
-pub entry_well : (f : Field) (v : NewValue) (unique b old : ℕ) → Held v → plan_of f v unique ≡ plan.Put b → old < 256 ^ width_of f → entry_fits (kind_of v) (width_of f) old (number_of v) ≡ true
+pub entry_well : (f : Field) (v : NewValue) (unique b old : ℕ) → Held v → plan_of f v unique ≡ Ok b → old < 256 ^ width_of f → entry_fits (kind_of v) (width_of f) old (number_of v) ≡ true
 unfolding entry_fits number_fits pick
 entry_well NoField (Number x) unique b old held h l = wrong h
 entry_well Float (Number x) unique b old held h l = refl
@@ -239,20 +247,20 @@ module _ {s : List ℕ} {u t : ℕ} {j : List ℕ} {n row column : ℕ} {v : New
       let c = column_small right in
       let d = only.row_is in
       let e = only.column_is in
-      let k = width_small f refl in
+      let k = width_small f in
       record { sheet = omega arith; row = omega arith; column = omega arith; kind = kind_small v; width = omega arith; old = old_small f old (num_small s (width_of f) p bytes); new = new_small v held }
 
   pub entry_form : Well x
   entry_form = entry_well f v g.unique b old held w.plan (num_small s (width_of f) p bytes)
 
-  plan_is : entry_plan f (kind_of v) (number_of v) g.unique ≡ plan.Put b
+  plan_is : entry_plan f (kind_of v) (number_of v) g.unique ≡ Ok b
   plan_is = plan_same f v g.unique held ∙ w.plan
 
   -- forwards it is made again
   pub made_again : make_of g.unique t x s ≡ writes f p b
   made_again =
       (λ i. make_at s x (w.aims i))
-      ∙ ap₂ (λ (there : Bool) (y : Plan). on_make f p there y) (holds_is s f p old refl) plan_is
+      ∙ ap₂ (λ (there : Bool) (y : Result ℕ Refusal). on_make f p there y) (holds_is s f p old refl) plan_is
       ∙ sym (pick_true (writes f p b) (writes f p b) (refuses 19 0) true refl refl)
 
   -- backwards it is undone

@@ -15,14 +15,16 @@ use Rattle.byte_numbers.specs.Bytes.{num_at, bytes_of}
 use Rattle.value.specs.declared.Field.{Field}
 use Rattle.value.specs.Value.{width_of}
 use Rattle.globals.specs.declared.Globals.{Globals}
-use Rattle.workbook.specs.declared.Checked.{Checked}
-use Rattle.workbook.specs.declared.Checked.TheVariants.{Right, Wrong}
+use Rattle.std.specs.Prelude.{Ok, Err}
+use Rattle.workbook.specs.Check.{Checked}
+use Rattle.workbook.specs.Check.{Right}
 use Rattle.workbook.specs.Check.{checked_of, on_checked}
 use Rattle.record_chain.proofs.Sheets.{passing}
 use Rattle.correction.specs.Correction.{Correction, refuses, writes, stream_after}
 use Rattle.passes_after.proofs.Stored.{stored_checked}
 use Rattle.either_order.specs.Apart.{Asked}
-use Rattle.journal.specs.Entries.{header, count_in, entry_at, Entry, entry_in, journal_fits, logged}
+use Rattle.journal.specs.declared.Entry.{Entry}
+use Rattle.journal.specs.Entries.{header, count_in, entry_at, entry_in, journal_fits, logged}
 use Rattle.journal.specs.EntryParts.{Room}
 use Rattle.journal.specs.Journal.{declines, begins, start_in, start_of, entry_of, journal_after}
 use Rattle.replay_entry.specs.Steps.{make_of, undo_of}
@@ -108,7 +110,7 @@ begins_by s j u unique x i h g e = go (ltb (length j) 16) refl (ap (on_checked d
 
 module _ (u t : ℕ) (s j : List ℕ) (unique : ℕ) (bytes : Bytes s) (lent : u < 2 ^ 32) where
   start_by_lem : (x : Checked) → checked_of s u ≡ x → on_checked declines (λ (g : Globals). pick (ltb (length j) 16) (declines 12 0) (begins g.unique)) x ≡ begins unique → Keeping u t s s (header (length s) unique j)
-  start_by_lem (Right g) i h =
+  start_by_lem (Ok g) i h =
       let k = begins_by s j u unique (Right g) i h g refl in
       let l = (passing s u g i).short in
       let small = unique_small s u g bytes lent (passing s u g i).globals in
@@ -123,7 +125,7 @@ module _ (u t : ℕ) (s j : List ℕ) (unique : ℕ) (bytes : Bytes s) (lent : u
         formed = subst (λ (q : ℕ). Formed (header (length s) unique j) (length s) q) (sym k.1) f;
         history = subst (λ (n : ℕ). History g.unique t (header (length s) unique j) s n s) (sym (started_count j (length s) unique k.0 (omega arith) (omega arith))) none;
       }
-  start_by_lem (Wrong m o) i h = never (cc)
+  start_by_lem (Err r) i h = never (cc)
 
   keeping_start : start_of s u (length j) ≡ begins unique → Keeping u t s s (header (length s) unique j)
   unfolding start_of start_in

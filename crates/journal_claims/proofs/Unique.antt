@@ -13,7 +13,7 @@ use Rattle.segments.specs.Segments.{Got, got, refused, then, list_of, filled}
 use Rattle.strings.specs.Table.{strings, first, table_of, places_of}
 use Rattle.strings.proofs.Laws.{strings_count}
 use Rattle.globals.specs.declared.Globals.{Globals}
-use Rattle.globals.specs.declared.Ended.TheVariants.{At}
+use Rattle.std.specs.Prelude.{Ok}
 use Rattle.globals.specs.Globals.{globals_of}
 use Rattle.globals.proofs.Table.{TableTold, table_told}
 use Rattle.journal_claims.proofs.Right.{num_small}
@@ -31,7 +31,7 @@ places_at_most : (s : List ℕ) (p e : ℕ) → length (places_of s p e) ≤ u32
 unfolding table_of
 places_at_most s p e = pick_any (λ (x : Got (List Cursor)). length (list_of x) ≤ u32_at s (p + 8)) (ltb (e - (p + 4)) 8) (omega arith) (strings_at_most s (u32_at s (p + 8)) (first p e) (strings s (u32_at s (p + 8)) (first p e)) refl)
 
-pub unique_small : (s : List ℕ) (u : ℕ) (g : Globals) → Bytes s → u < 2 ^ 32 → globals_of s u ≡ At g → g.unique < 2 ^ 32
+pub unique_small : (s : List ℕ) (u : ℕ) (g : Globals) → Bytes s → u < 2 ^ 32 → globals_of s u ≡ Ok g → g.unique < 2 ^ 32
 unique_small s u g bytes small h = go (table_told s u g h)
   where
     go : TableTold s u g → g.unique < 2 ^ 32

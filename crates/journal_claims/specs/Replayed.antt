@@ -1,18 +1,18 @@
 -- What holds of a journal and its replay. u is the unique count of strings where the stream has no SST, t how many sheets the template has; both are 0 without a template.
-use Rattle.std.specs.Prelude.{ℕ, ◌+◌, ◌^◌, ◌<◌, ◌≡◌, List, true, false, length, get_or}
+use Rattle.std.specs.Prelude.{ℕ, ◌+◌, ◌^◌, ◌<◌, ◌≡◌, List, true, false, Ok, length, get_or}
 use Rattle.value.specs.declared.Field.{Field}
 use Rattle.value.specs.Value.{width_of}
 use Rattle.new_value.specs.declared.NewValue.{NewValue}
 use Rattle.new_value.specs.Change.{Held}
 use Rattle.globals.specs.declared.Globals.{Globals}
-use Rattle.workbook.specs.declared.Checked.TheVariants.{Right}
+use Rattle.workbook.specs.Check.{Right}
 use Rattle.workbook.specs.Check.{checked_of}
-use Rattle.correction.specs.declared.Aim.TheVariants as aim
 use Rattle.correction.specs.Parts.{aim_in}
 use Rattle.correction.specs.Correction.{Correction, writes, correction_of, stream_after}
 use Rattle.passes_after.specs.Stored.{Stored}
 use Rattle.either_order.specs.Apart.{Asked, outcome, Elsewhere, OneCell}
-use Rattle.journal.specs.Entries.{count_in, entry_at, Entry, entry_in, entry_fits, room_for}
+use Rattle.journal.specs.declared.Entry.{Entry}
+use Rattle.journal.specs.Entries.{count_in, entry_at, entry_in, entry_fits, room_for}
 use Rattle.journal.specs.Journal.{begins, start_of, started_journal, journalled_of, kind_of, number_of, entry_of, journal_after}
 use Rattle.replay_entry.specs.Steps.{passes_in, make_of, undo_of}
 use Rattle.replay_entry.specs.Replay.{all, ran, replay_of}
@@ -125,5 +125,5 @@ EntriesStore =
 -- and old bytes that an undo turns down with 18 are bytes that the check wouldn't pass in that cell
 abbrev pub TurnedDown : Type 0
 TurnedDown =
-    (s : List ℕ) (u t : ℕ) (g : Globals) → checked_of s u ≡ Right g → (n row column : ℕ) (f : Field) (p : ℕ) → aim_in s g.unique t n row column ≡ aim.At f p g.unique
+    (s : List ℕ) (u t : ℕ) (g : Globals) → checked_of s u ≡ Right g → (n row column : ℕ) (f : Field) (p : ℕ) → aim_in s g.unique t n row column ≡ Ok (record { kind = f; field = p; unique = g.unique })
     → (b : ℕ) → b < 256 ^ width_of f → passes_in f g.unique b ≡ false → (h : Globals) → checked_of (stream_after s (writes f p b)) u ≡ Right h → ⊥

@@ -1,55 +1,55 @@
 -- From token to token of a level, and what a token's size says of its bytes. Assumes nothing.
-use Prim.Native.Nat.{ℕ, suc, ◌+◌, ◌-◌, ◌*◌, ◌^◌, ◌≤◌, ◌<◌}
-use mathlib.Core.Path.{◌≡◌, refl, sym, ◌∙◌, ap}
-use mathlib.Core.Bool.{Bool, true, false}
-use mathlib.Core.List.{List, [], ◌∷◌}
-use native.Mathlib.Omega.{arith}
-use borrow.Author.Tests.{eqb-true, eqb-false, le-ltb, ltb-false}
-use mir.Syntax.{w64}
-use mir.Val.{Fits}
-use lib.Dec.{ltb, eqb}
-use lib.ListN.{length, take, drop, length-drop}
-use lib.Seq.{take_all}
+use Rattle.std.proofs.Common.{◌≡◌, ℕ, suc, ◌+◌, ◌-◌, ◌*◌, ◌^◌, ◌≤◌, ◌<◌, List, [], ◌∷◌, Bool, true, false, Result, Ok, Err, ltb, eqb, eqb-true, ltb-false, length, drop, length-drop, refl, sym, ap, ◌∙◌, Fits, w64, arith}
+use Rattle.tokens.specs.declared.Place.{Place}
+use Rattle.std.proofs.lemmas.Bool.{eqb-false}
+use borrow.Author.Tests.{le-ltb}
 use Rattle.steps.specs.Choice.{pick}
 use Rattle.steps.specs.Walk.{more, stop}
 use Rattle.steps.proofs.Choice.{never, pick_eq, pick_ne, refl'}
 use Rattle.steps.proofs.Walk.{Falls, run_more, run_stop}
 use Rattle.byte_numbers.specs.Bytes.{byte_at, u16_at}
 use Rattle.tokens.specs.declared.Token.{Token}
-use Rattle.tokens.specs.declared.Token.TheVariants.{Plain, Memory, Invalid}
-use Rattle.tokens.specs.Tokens.{choice_of, attribute_by, attribute_of, base_of, token_of}
+use Rattle.tokens.specs.declared.Token.TheVariants.{Plain, Memory}
+use Rattle.refusal.specs.declared.Refusal.{Refusal}
+use Rattle.tokens.specs.Tokens.{choice_of, attribute_by, attribute_of, base_of, standing, any_of, token_of}
 use Rattle.tokens.proofs.Within.{TokenWithin, token_within}
 use Rattle.jumps.specs.Jumps.{table_of, targets_by, targets_of, size_of, towards, lands_from, lands_on, all_land, lands_of}
 
 -- ---- the size of a token
 -- a token lies within the bytes that are left
 pub size_in : (t : List ℕ) (offset depth : ℕ) → size_of (token_of t offset depth) ≤ length t
-unfolding token_of base_of pick TokenWithin
+unfolding token_of any_of base_of pick TokenWithin
 size_in [] offset depth = omega arith
 size_in (b ∷ t) offset depth = go (token_of (b ∷ t) offset depth) (token_within (b ∷ t) depth offset (omega arith))
   where
-    go : (x : Token) → TokenWithin (length (b ∷ t)) depth x → size_of x ≤ length (b ∷ t)
-    go (Plain size takes gives) h = omega arith
-    go (Memory size head) h = omega arith
-    go (Invalid number) h = omega arith
+    go : (x : Result Token Refusal) → TokenWithin (length (b ∷ t)) depth x → size_of x ≤ length (b ∷ t)
+    go (Ok (Plain size takes gives)) h = omega arith
+    go (Ok (Memory size head)) h = omega arith
+    go (Err r) h = omega arith
+
+-- and has a byte at least
+at_least_one : (t : List ℕ) (offset depth : ℕ) (y : Token) → 0 < length t → token_of t offset depth ≡ Ok y → size_of (Ok y) ≡ 0 → ⊥
+unfolding TokenWithin
+at_least_one t offset depth y some e = go y (rw e at (token_within t depth offset some))
+  where
+    go : (y : Token) → TokenWithin {E = Refusal} (length t) depth (Ok y) → size_of (Ok y) ≡ 0 → ⊥
+    go (Plain size takes gives) h z = omega arith
+    go (Memory size head) h z = omega arith
 
 module _ (t : List ℕ) (offset depth : ℕ) (some : 0 < size_of (token_of t offset depth)) where
   pub token_some : 0 < length t
   token_some = omega (arith, size_in t offset depth)
 
   module _ (jump : byte_at t 0 ≡ 0x19) where
-    as_attribute : token_of t offset depth ≡ attribute_of t
-    unfolding token_of base_of pick
-    as_attribute = rw jump refl
-
-    size_attribute : 0 < size_of (attribute_of t)
-    size_attribute = rw as_attribute at some
+    size_attribute : 0 < size_of (standing offset (attribute_of t))
+    unfolding token_of any_of base_of pick
+    size_attribute = rw jump at some
 
     pub attribute_whole : 4 ≤ length t
     unfolding attribute_of pick
     attribute_whole = go (ltb (length t) 4) refl size_attribute
       where
-        go : (b : Bool) → ltb (length t) 4 ≡ b → 0 < size_of (pick b (Invalid 13) (attribute_by (byte_at t 1) t)) → 4 ≤ length t
+        go : (b : Bool) → ltb (length t) 4 ≡ b → 0 < size_of (standing offset (pick b (Err 13) (attribute_by (byte_at t 1) t))) → 4 ≤ length t
         go true e h = absurd (omega arith)
         go false e h = ltb-false (length t) 4 e
 
@@ -60,17 +60,17 @@ module _ (t : List ℕ) (offset depth : ℕ) (some : 0 < size_of (token_of t off
     unfolding attribute_of attribute_by pick
     as_choice kind = let l : ltb (length t) 4 ≡ false = le-ltb (length t) 4 attribute_whole in rw (l, kind) refl
 
-    pub choice_whole : (w n : ℕ) → w ≡ u16_at t 2 → n ≡ w → byte_at t 1 ≡ 0x04 → 4 + 2 * (n + 1) ≤ length t
+    pub choice_whole : byte_at t 1 ≡ 0x04 → 4 + 2 * (u16_at t 2 + 1) ≤ length t
     unfolding choice_of pick
-    choice_whole w n f g kind = rw (g, f) (go (ltb (length t) (4 + 2 * (u16_at t 2 + 1))) refl (rw (as_choice kind) at size_attribute))
+    choice_whole kind = go (ltb (length t) (4 + 2 * (u16_at t 2 + 1))) refl (rw (as_choice kind) at size_attribute)
       where
-        go : (b : Bool) → ltb (length t) (4 + 2 * (u16_at t 2 + 1)) ≡ b → 0 < size_of (pick b (Invalid 13) (Plain (4 + 2 * (u16_at t 2 + 1)) 0 0)) → 4 + 2 * (u16_at t 2 + 1) ≤ length t
+        go : (b : Bool) → ltb (length t) (4 + 2 * (u16_at t 2 + 1)) ≡ b → 0 < size_of (standing offset (pick b (Err 13) (Ok (Plain (4 + 2 * (u16_at t 2 + 1)) 0 0)))) → 4 + 2 * (u16_at t 2 + 1) ≤ length t
         go true e h = absurd (omega arith)
         go false e h = ltb-false (length t) (4 + 2 * (u16_at t 2 + 1)) e
 
 pub ruleset sized = (token_some, attribute_whole, kind_some, choice_whole)
 
--- ---- from token to token: e is the answer from the first on
+-- ---- from token to token
 module _ (t : List ℕ) (offset depth target : ℕ) where
   abbrev pub here : ℕ → ℕ
   here at = size_of (token_of (drop at t) (offset + at) depth)
@@ -98,58 +98,78 @@ module _ (t : List ℕ) (offset depth target : ℕ) where
           let n : at + here at ≡ next = cc in
           omega (arith, eqb-false (here at) 0 g, size_in (drop at t) (offset + at) depth, length-drop at t)
 
-  module _ (at : ℕ) (e : Bool) (on : lands_from t offset depth target at ≡ e) where
-    pub reached : at ≡ target → true ≡ e
-    unfolding lands_from
-    reached h = sym (run_stop (towards t offset depth target) false (λ at. length t - at) falls (to_target at h)) ∙ on
+-- the tokens up to `at` are passed, and none of them is the target
+pub record Reached (t : List ℕ) (offset depth target at : ℕ) : Type 0 where
+  pub within : at ≤ length t
+  pub same : lands_from t offset depth target at ≡ lands_on t offset depth target
 
-    pub at_end_lem : length t ≤ at → eqb at target ≡ e
-    unfolding lands_from
-    at_end_lem h = go (eqb at target) refl
-      where
-        go : (b : Bool) → eqb at target ≡ b → b ≡ e
-        go true f = reached (eqb-true at target f)
-        go false f = sym (run_stop (towards t offset depth target) false (λ at. length t - at) falls (to_end at (eqb-false at target f) (omega (arith, size_in (drop at t) (offset + at) depth, length-drop at t)))) ∙ on
+pub at_start : (t : List ℕ) (offset depth target : ℕ) → Reached t offset depth target 0
+unfolding lands_on
+at_start t offset depth target = record { within = omega arith; same = refl }
 
-    module _ (x : Token) (size : ℕ) (within : at ≤ length t) (r : x ≡ token_of (take (length t - at) (drop at t)) (offset + at) depth) (s : size ≡ size_of x) where
-      is_here : size ≡ here at
-      is_here = s ∙ ap size_of r ∙ ap (λ (l : List ℕ). size_of (token_of l (offset + at) depth)) (take_all (length t - at) (drop at t) (omega (arith, length-drop at t)))
+module _ (t : List ℕ) (offset depth target at : ℕ) (on : Reached t offset depth target at) where
+  stopped : (a : Bool) → towards t offset depth target at ≡ stop a → a ≡ lands_on t offset depth target
+  unfolding lands_from
+  stopped a e = sym (run_stop (towards t offset depth target) false (λ at. length t - at) (falls t offset depth target) e) ∙ on.same
 
-      pub no_token : (at ≡ target → ⊥) → size ≡ 0 → false ≡ e
+  pub reached : at ≡ target → true ≡ lands_on t offset depth target
+  reached h = stopped true (to_target t offset depth target at h)
+
+  pub at_end_lem : length t ≤ at → eqb at target ≡ lands_on t offset depth target
+  at_end_lem h = go (eqb at target) refl
+    where
+      go : (b : Bool) → eqb at target ≡ b → b ≡ lands_on t offset depth target
+      go true f = reached (eqb-true at target f)
+      go false f = stopped false (to_end t offset depth target at (eqb-false at target f) (omega (arith, size_in (drop at t) (offset + at) depth, length-drop at t)))
+
+  -- q is the place there, and x its token
+  module _ (q : Place) (a : q.bytes.now ≡ drop at t) (b : q.offset ≡ offset + at) (c : q.depth ≡ depth) (apart : at ≡ target → ⊥) (some : at < length t) (x : Result Token Refusal) (r : x ≡ token_of q.bytes.now q.offset q.depth) where
+    is_here : size_of x ≡ here t offset depth target at
+    is_here = rw (r, a, b, c) refl
+
+    pub no_token : (y : Refusal) → x ≡ Err y → false ≡ lands_on t offset depth target
+    no_token y z = stopped false (to_end t offset depth target at apart (sym is_here ∙ ap size_of z))
+
+    module _ (y : Token) (z : x ≡ Ok y) (size : ℕ) (s : size ≡ size_of (Ok y)) where
+      is_size : size ≡ here t offset depth target at
+      is_size = s ∙ ap size_of (sym z) ∙ is_here
+
+      size_some : size ≡ 0 → ⊥
+      size_some h = at_least_one (drop at t) (offset + at) depth y (simp length-drop (omega arith)) (sym (rw (a, b, c, z) at r)) (sym s ∙ h)
+
+      next_within : at + size ≤ length t
+      next_within = omega (arith, is_size, size_in (drop at t) (offset + at) depth, length-drop at t, on.within)
+
+      pub next_token : Reached t offset depth target (at + size)
       unfolding lands_from
-      no_token h z = sym (run_stop (towards t offset depth target) false (λ at. length t - at) falls (to_end at h (sym is_here ∙ z))) ∙ on
-
-      pub next_token : (at ≡ target → ⊥) → (size ≡ 0 → ⊥) → lands_from t offset depth target (at + size) ≡ e
-      unfolding lands_from
-      next_token h z = rw is_here (sym (run_more (towards t offset depth target) false (λ at. length t - at) falls (to_next at h (λ i. z (is_here ∙ i)))) ∙ on)
-
-      pub next_within : at + size ≤ length t
-      next_within = omega (arith, is_here, size_in (drop at t) (offset + at) depth, length-drop at t)
+      next_token = record {
+        within = next_within;
+        same = rw is_size (sym (run_more (towards t offset depth target) false (λ at. length t - at) (falls t offset depth target) (to_next t offset depth target at apart (λ i. size_some (is_size ∙ i)))) ∙ on.same);
+      }
 
       pub next_fits : offset + length t < 2 ^ 32 → Fits w64 (at + size)
-      next_fits h = omega (arith, next_within)
+      next_fits h = record { fits = omega (arith, next_within) }
 
-      pub next_nearer : (size ≡ 0 → ⊥) → length t - (at + size) < length t - at
-      next_nearer z = omega (arith, next_within)
+      pub next_nearer : length t - (at + size) < length t - at
+      next_nearer = omega (arith, next_within, size_some)
 
-pub at_start : (t : List ℕ) (offset depth target : ℕ) → lands_from t offset depth target 0 ≡ lands_on t offset depth target
-unfolding lands_on
-at_start t offset depth target = refl
+pub ruleset on_token_lem = (at_start, reached, at_end_lem, no_token, next_token, next_fits, next_nearer)
 
-pub ruleset on_token_lem = (at_start, reached, at_end_lem, no_token, next_token, next_within, next_fits, next_nearer)
-
--- ---- the words of a table: e is the answer from the first on
-module _ (t : List ℕ) (offset depth left at : ℕ) (e : Bool) (on : all_land t offset depth (table_of left t at) ≡ e) where
-  pub table_done : left ≤ 0 → true ≡ e
+-- ---- the words of a table: e is the answer from the first on, and i of n words are behind
+module _ (t : List ℕ) (offset depth n i : ℕ) (e : Bool) (on : all_land t offset depth (table_of (n - i) t (4 + 2 * i)) ≡ e) where
+  pub table_done : n ≤ i → true ≡ e
   unfolding table_of all_land
-  table_done h = let z : left ≡ 0 = omega arith in rw z at on
+  table_done h = let z : n - i ≡ 0 = omega arith in rw z at on
 
-  module _ (w n : ℕ) (lands : Bool) (some : 0 < left) (f : w ≡ u16_at t at) (g : n ≡ w) (r : lands ≡ lands_on t offset depth (4 + n)) where
-    stepped : pick lands (all_land t offset depth (table_of (left - 1) t (at + 2))) false ≡ e
+  module _ (w : ℕ) (lands : Bool) (some : i < n) (f : w ≡ u16_at t (4 + 2 * i)) (r : lands ≡ lands_on t offset depth (4 + w)) where
+    stepped : pick lands (all_land t offset depth (table_of (n - (i + 1)) t (4 + 2 * (i + 1)))) false ≡ e
     unfolding table_of all_land
-    stepped = let s : left ≡ suc (left - 1) = omega arith in rw (r, g, f) (rw s at on)
+    stepped =
+        let s : n - i ≡ suc (n - (i + 1)) = omega arith in
+        let next : 4 + 2 * (i + 1) ≡ 4 + 2 * i + 2 = omega arith in
+        rw (r, f, next) (rw s at on)
 
-    pub table_next : lands ≡ true → all_land t offset depth (table_of (left - 1) t (at + 2)) ≡ e
+    pub table_next : lands ≡ true → all_land t offset depth (table_of (n - (i + 1)) t (4 + 2 * (i + 1))) ≡ e
     unfolding pick
     table_next h = rw h at stepped
 
@@ -169,24 +189,24 @@ module _ (t : List ℕ) (offset depth : ℕ) where
       go true = refl
       go false = refl
 
-  module _ (r : Bool) (w n : ℕ) (f : w ≡ u16_at t 2) (g : n ≡ w) where
+  module _ (r : Bool) (n : ℕ) (f : n ≡ u16_at t 2) where
     pub lands_if : byte_at t 1 ≡ 0x02 → r ≡ lands_on t offset depth (4 + n) → r ≡ all_land t offset depth (targets_by (byte_at t 1) t)
     unfolding targets_by pick
-    lands_if k h = rw k (h ∙ ap (λ (m : ℕ). lands_on t offset depth (4 + m)) (g ∙ f) ∙ one_target (4 + u16_at t 2))
+    lands_if k h = rw k (h ∙ ap (λ (m : ℕ). lands_on t offset depth (4 + m)) f ∙ one_target (4 + u16_at t 2))
 
     pub lands_goto : byte_at t 1 ≡ 0x08 → r ≡ lands_on t offset depth (4 + n + 1) → r ≡ all_land t offset depth (targets_by (byte_at t 1) t)
     unfolding targets_by pick
-    lands_goto k h = rw k (h ∙ ap (λ (m : ℕ). lands_on t offset depth (4 + m + 1)) (g ∙ f) ∙ one_target (4 + u16_at t 2 + 1))
+    lands_goto k h = rw k (h ∙ ap (λ (m : ℕ). lands_on t offset depth (4 + m + 1)) f ∙ one_target (4 + u16_at t 2 + 1))
 
     pub lands_choose : byte_at t 1 ≡ 0x04 → r ≡ all_land t offset depth (table_of (n + 1) t 4) → r ≡ all_land t offset depth (targets_by (byte_at t 1) t)
     unfolding targets_by pick
-    lands_choose k h = rw k (h ∙ ap (λ (m : ℕ). all_land t offset depth (table_of (m + 1) t 4)) (g ∙ f))
+    lands_choose k h = rw k (h ∙ ap (λ (m : ℕ). all_land t offset depth (table_of (m + 1) t 4)) f)
 
   pub lands_plain : (byte_at t 1 ≡ 0x02 → ⊥) → (byte_at t 1 ≡ 0x08 → ⊥) → (byte_at t 1 ≡ 0x04 → ⊥) → true ≡ all_land t offset depth (targets_by (byte_at t 1) t)
   unfolding all_land targets_by
   lands_plain p q r = ap (all_land t offset depth) (pick_ne [] _ _ (byte_at t 1) 0x02 p (pick_ne _ _ _ (byte_at t 1) 0x08 q (pick_ne _ _ _ (byte_at t 1) 0x04 r refl)))
 
-pub ruleset by_kind = (lands_if, lands_goto, lands_choose, lands_plain)
+pub ruleset on_kind = (sized, lands_if, lands_goto, lands_choose, lands_plain)
 
 -- ---- any token
 module _ (t : List ℕ) (offset depth : ℕ) where
@@ -198,4 +218,4 @@ module _ (t : List ℕ) (offset depth : ℕ) where
   unfolding lands_of targets_of all_land
   lands_other e = ap (all_land t offset depth) (pick_ne [] _ _ (byte_at t 0) 0x19 e refl)
 
-pub ruleset any_token = (lands_attribute, lands_other)
+pub ruleset any_token = (token_some, lands_attribute, lands_other)

@@ -1,24 +1,17 @@
 -- A jump is looked up from its own token on: that is as good as from the start of its level, whose tokens end where it does. Assumes nothing.
-use Prim.Native.Nat.{ℕ, zero, suc, ◌+◌, ◌-◌, ◌≤◌, ◌<◌}
-use mathlib.Core.Path.{◌≡◌, refl, sym, ◌∙◌, ap}
-use mathlib.Core.Bool.{Bool, true, false}
-use mathlib.Core.List.{List, [], ◌∷◌}
-use native.Mathlib.Omega.{arith}
-use native.Mathlib.Nat.{add_assoc, add-zero}
-use borrow.Author.Tests.{eqb-true, eqb-false, ltb-true, ltb-false}
-use lib.Dec.{ltb, eqb}
-use lib.ListN.{length, drop, length-drop}
-use lib.Seq.{drop-drop}
+use Rattle.std.proofs.Common.{◌≡◌, ℕ, zero, suc, ◌+◌, ◌-◌, ◌≤◌, ◌<◌, List, [], ◌∷◌, Bool, true, false, Result, Ok, Err, ltb, eqb, eqb-true, ltb-true, ltb-false, length, drop, length-drop, refl, sym, ap, ◌∙◌, add_assoc, add-zero, arith}
+use Rattle.std.proofs.lemmas.Bool.{eqb-false}
+use Rattle.std.proofs.Math.Seq.{drop-drop}
 use Rattle.steps.specs.Walk.{more, stop, run_f, run}
 use Rattle.steps.proofs.Choice.{never}
 use Rattle.steps.proofs.Walk.{run_more, run_stop, run_keeps}
 use Rattle.steps.specs.Choice.{pick}
 use Rattle.tokens.specs.declared.Token.{Token}
-use Rattle.tokens.specs.declared.Token.TheVariants.{Plain, Memory, Invalid}
-use Rattle.tokens.specs.declared.Judgement.{Judgement}
-use Rattle.tokens.specs.declared.Judgement.TheVariants.{Accepted, Refused}
+use Rattle.tokens.specs.declared.Token.TheVariants.{Plain, Memory}
+use Rattle.refusal.specs.declared.Refusal.{Refusal}
+use Rattle.refusal.specs.Refused.{refuse}
 use Rattle.tokens.specs.Tokens.{token_of}
-use Rattle.tokens.specs.Judge.{if_accepted, on_token, formula_of}
+use Rattle.tokens.specs.Judge.{Judgement, if_accepted, on_token, formula_of}
 use Rattle.tokens.proofs.Within.{TokenWithin, token_within}
 use Rattle.jumps.specs.Jumps.{size_of, towards, lands_from, lands_on, AsFromStart, AcceptedEnds}
 use Rattle.jumps.proofs.Laws.{here, to_target, to_end, to_next, falls}
@@ -131,20 +124,20 @@ module _ (t : List ℕ) (offset depth : ℕ) where
       ∙ h
 
   -- what the first token says, and what is left of the level
-  on_first_lem : (k stack : ℕ) (x : Token) → token_of t offset depth ≡ x → TokenWithin (length t) depth x → (inner : ℕ → ℕ → Judgement) → ((size left : ℕ) → 1 ≤ size → formula_of k (drop size t) (offset + size) left depth ≡ Accepted → lands_on (drop size t) (offset + size) depth (length (drop size t)) ≡ true)
-      → on_token inner (λ size left. formula_of k (drop size t) (offset + size) left depth) offset stack x ≡ Accepted → lands_on t offset depth (length t) ≡ true
+  on_first_lem : (k stack : ℕ) (x : Result Token Refusal) → token_of t offset depth ≡ x → TokenWithin (length t) depth x → (inner : ℕ → ℕ → Judgement) → ((size left : ℕ) → 1 ≤ size → formula_of k (drop size t) (offset + size) left depth ≡ Ok tt → lands_on (drop size t) (offset + size) depth (length (drop size t)) ≡ true)
+      → on_token inner (λ size left. formula_of k (drop size t) (offset + size) left depth) offset stack x ≡ Ok tt → lands_on t offset depth (length t) ≡ true
   unfolding TokenWithin pick
-  on_first_lem k stack (Plain size takes gives) e w inner ih h = go (ltb stack takes) h
+  on_first_lem k stack (Ok (Plain size takes gives)) e w inner ih h = go (ltb stack takes) h
     where
-      go : (b : Bool) → pick b (Refused 14 offset) (formula_of k (drop size t) (offset + size) (stack - takes + gives) depth) ≡ Accepted → lands_on t offset depth (length t) ≡ true
+      go : (b : Bool) → pick b (refuse 14 offset) (formula_of k (drop size t) (offset + size) (stack - takes + gives) depth) ≡ Ok tt → lands_on t offset depth (length t) ≡ true
       go true i = never (cc)
       go false i = ends_after size (ap size_of e) (omega arith) (omega arith) (ih size (stack - takes + gives) (omega arith) i)
-  on_first_lem k stack (Memory size head) e w inner ih h = go (inner head size) h
+  on_first_lem k stack (Ok (Memory size head)) e w inner ih h = go (inner head size) h
     where
-      go : (j : Judgement) → if_accepted j (formula_of k (drop size t) (offset + size) (stack + 1) depth) ≡ Accepted → lands_on t offset depth (length t) ≡ true
-      go Accepted i = ends_after size (ap size_of e) (omega arith) (omega arith) (ih size (stack + 1) (omega arith) i)
-      go (Refused number o) i = never (cc)
-  on_first_lem k stack (Invalid number) e w inner ih h = never (cc)
+      go : (j : Judgement) → if_accepted j (formula_of k (drop size t) (offset + size) (stack + 1) depth) ≡ Ok tt → lands_on t offset depth (length t) ≡ true
+      go (Ok u) i = ends_after size (ap size_of e) (omega arith) (omega arith) (ih size (stack + 1) (omega arith) i)
+      go (Err r) i = never (cc)
+  on_first_lem k stack (Err r) e w inner ih h = never (cc)
 
 pub accepted_ends : AcceptedEnds
 unfolding formula_of

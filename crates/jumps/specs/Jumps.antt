@@ -1,13 +1,12 @@
 -- Where the jumps of a token lead, and whether they land: 0x19 of the kinds 0x02, 0x08 and 0x04.
 -- In each definition t is the bytes from a token on to the end of its formula level, and places are counted from that token.
-use Rattle.std.specs.Prelude.{ℕ, zero, suc, ◌+◌, ◌-◌, ◌≤◌, ◌≡◌, List, [], ◌∷◌, Bool, true, false, eqb, length, drop}
+use Rattle.std.specs.Prelude.{ℕ, zero, suc, ◌+◌, ◌-◌, ◌≤◌, ◌≡◌, List, [], ◌∷◌, Bool, true, false, Result, Ok, Err, eqb, length, drop}
 use Rattle.steps.specs.Choice.{pick}
 use Rattle.steps.specs.Walk.{Next, more, stop, run}
 use Rattle.byte_numbers.specs.Bytes.{byte_at, u16_at}
 use Rattle.tokens.specs.declared.Token.{Token}
-use Rattle.tokens.specs.declared.Token.TheVariants.{Plain, Memory, Invalid}
-use Rattle.tokens.specs.declared.Judgement.TheVariants.{Accepted}
-use Rattle.tokens.specs.Tokens.{token_of}
+use Rattle.refusal.specs.declared.Refusal.{Refusal}
+use Rattle.tokens.specs.Tokens.{size_of as token_size, token_of}
 use Rattle.tokens.specs.Judge.{formula_of}
 
 -- ---- where they lead
@@ -28,11 +27,10 @@ unfoldable pub targets_of : List ℕ → List ℕ
 targets_of t = pick (eqb (byte_at t 0) 0x19) (targets_by (byte_at t 1) t) []
 
 -- ---- the token starts of a level, and its end
--- the bytes of a token, a memory token's inner ones included; 0 where there is none
-abbrev pub size_of : Token → ℕ
-size_of (Plain size takes gives) = size
-size_of (Memory size head) = size
-size_of (Invalid number) = 0
+-- the bytes of a token; 0 where there is none
+abbrev pub size_of : Result Token Refusal → ℕ
+size_of (Ok token) = token_size token
+size_of (Err r) = 0
 
 -- at one token start after another: it is the target; or no token follows; or the next start
 unfoldable pub towards : List ℕ → ℕ → ℕ → ℕ → ℕ → Next ℕ Bool
@@ -69,5 +67,5 @@ abbrev pub AcceptedEnds : Type 0
 AcceptedEnds =
     (k : ℕ) (t : List ℕ) (offset stack depth : ℕ)
     → length t ≤ k
-    → formula_of k t offset stack depth ≡ Accepted
+    → formula_of k t offset stack depth ≡ Ok tt
     → lands_on t offset depth (length t) ≡ true

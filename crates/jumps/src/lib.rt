@@ -1,57 +1,38 @@
 // Jumps in formulas must land: on a token start of their level, or on its end.
 #![tactic(auto)]
 
-ghost use Rattle.std.specs.Prelude.{◌≡◌, ◌+◌, ◌*◌, ◌^◌, ◌≤◌, ◌<◌, length};
+ghost use Rattle.std.specs.Prelude.{◌≡◌, ◌+◌, ◌*◌, ◌≤◌, ◌<◌, length};
 ghost use Rattle.byte_numbers.specs.Bytes.{byte_at};
 ghost use Rattle.tokens.specs.Tokens.{token_of};
 ghost use Rattle.jumps.specs.Jumps.{table_of, targets_by, size_of, lands_on, all_land, lands_of};
 
-use tokens::Token;
+use tokens::Place;
 
-// The bytes of a token; 0 where there is none.
-fn size_of(token: Token) -> usize
-    ensures { result ≡ size_of token }
+// The target, counted from the token at `place`, is a token start of its level or the level's end.
+#[tactic(auto, using(crate::proofs::Laws::on_token_lem))]
+fn lands_on(place: Place, target: usize) -> bool
+    ensures { result ≡ lands_on place.entry.bytes.now place.entry.offset place.entry.depth target }
 {
-    match token {
-        Token::Plain(size, _, _) => size,
-        Token::Memory(size, _) => size,
-        Token::Invalid(_) => 0,
-    }
-}
-
-// The target, counted from the token that t starts with, is a token start of its level or the level's end.
-fn lands_on(t: &[u8], offset: usize, depth: u8, target: usize) -> bool
-    requires { offset + length t.now < 2 ^ 32 }
-    ensures { result ≡ lands_on t.now offset depth target }
-{
-    let mut at: usize = 0;
-    while at < t.len() {
-        if at == target {
-            return true;
+    let mut at = 0;
+    // Each token says how many bytes it takes up: the next one starts there, and no index is counted.
+    while at != target && at < place.bytes.len() {
+        match place.after(at).first_token() {
+            Ok(token) => at += token.size(),
+            Err(_) => return false,
         }
-        let size = size_of(tokens::first_token(&t[at..], offset + at, depth));
-        if size == 0 {
-            return false;
-        }
-        at += size;
     }
     at == target
 }
 
 // 0x04: each of so many words after the first four bytes.
-fn table_lands(words: usize, t: &[u8], offset: usize, depth: u8) -> bool
-    requires words_in_bounds { 4 + 2 * words ≤ length t.now }
-    requires t_bound { offset + length t.now < 2 ^ 32 }
-    ensures { result ≡ all_land t.now offset depth (table_of words t.now 4) }
+#[tactic(auto, using(crate::proofs::Laws::on_word))]
+fn table_lands(place: Place, words: usize) -> bool
+    requires { 4 + 2 * words ≤ length place.bytes.now }
+    ensures { result ≡ all_land place.entry.bytes.now place.entry.offset place.entry.depth (table_of words place.entry.bytes.now 4) }
 {
-    let mut left = words;
-    let mut at: usize = 4;
-    while 0 < left {
-        let target = 4 + byte_numbers::u16_as_usize(byte_numbers::u16_at(t, at));
-        if lands_on(t, offset, depth, target) {
-            at += 2;
-            left -= 1;
-        } else {
+    for i in 0..words {
+        let target = 4 + usize::from(byte_numbers::u16_at(place.bytes, 4 + 2 * i));
+        if !lands_on(place, target) {
             return false;
         }
     }
@@ -59,30 +40,26 @@ fn table_lands(words: usize, t: &[u8], offset: usize, depth: u8) -> bool
 }
 
 // 0x19, by its kind.
-fn attribute_lands(t: &[u8], offset: usize, depth: u8) -> bool
-    requires nonzero { 0 < size_of (token_of t.now offset depth) }
-    requires t_value { byte_at t.now 0 ≡ 0x19 }
-    requires t_bound { offset + length t.now < 2 ^ 32 }
-    ensures { result ≡ all_land t.now offset depth (targets_by (byte_at t.now 1) t.now) }
+#[tactic(auto, using(crate::proofs::Laws::on_kind))]
+fn attribute_lands(place: Place) -> bool
+    requires some { 0 < size_of (token_of place.bytes.now place.offset place.depth) }
+    requires attribute { byte_at place.bytes.now 0 ≡ 0x19 }
+    ensures { result ≡ all_land place.entry.bytes.now place.entry.offset place.entry.depth (targets_by (byte_at place.entry.bytes.now 1) place.entry.bytes.now) }
 {
-    let kind = t[1];
-    let word = byte_numbers::u16_as_usize(byte_numbers::u16_at(t, 2));
-    match kind {
-        0x02 => lands_on(t, offset, depth, 4 + word),
-        0x08 => lands_on(t, offset, depth, 4 + word + 1),
-        0x04 => table_lands(word + 1, t, offset, depth),
+    let word = usize::from(byte_numbers::u16_at(place.bytes, 2));
+    match place.bytes[1] {
+        0x02 => lands_on(place, 4 + word),
+        0x08 => lands_on(place, 4 + word + 1),
+        0x04 => table_lands(place, word + 1),
         _ => true,
     }
 }
 
-// All jumps of the token that t starts with land. t ends where the token's level does.
-pub fn jumps_land(t: &[u8], offset: usize, depth: u8) -> bool
-    requires nonzero { 0 < size_of (token_of t.now offset depth) }
-    requires t_bound { offset + length t.now < 2 ^ 32 }
-    ensures { result ≡ lands_of t.now offset depth }
+// All jumps of a token land. The place's bytes end where the token's level does.
+#[tactic(auto, using(crate::proofs::Laws::any_token))]
+pub fn jumps_land(place: Place) -> bool
+    requires { 0 < size_of (token_of place.bytes.now place.offset place.depth) }
+    ensures { result ≡ lands_of place.entry.bytes.now place.entry.offset place.entry.depth }
 {
-    if t[0] == 0x19 {
-        return attribute_lands(t, offset, depth);
-    }
-    true
+    place.bytes[0] != 0x19 || attribute_lands(place)
 }

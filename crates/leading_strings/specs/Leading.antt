@@ -1,17 +1,18 @@
 -- What the contracts speak of.
-use Rattle.std.specs.Prelude.{ℕ, ◌+◌, ◌≡◌, List}
-use Rattle.byte_numbers.specs.Bytes.{u16_at}
+use Rattle.std.specs.Prelude.{ℕ, ◌≡◌}
 use Rattle.segments.specs.declared.Cursor.{Cursor}
 use Rattle.segments.specs.Segments.{got}
 use Rattle.segments.specs.Parts.{ends}
 use Rattle.strings.specs.Table.{strings, first}
-use Rattle.reading.specs.Reading.{strings_at}
+use Rattle.string_marks.specs.declared.table.Table.{Table}
+use Rattle.string_marks.specs.Marks.{end_at}
+use Rattle.string_links.specs.Links.{strings_in}
 use Rattle.records_abreast.specs.Abreast.{Common}
 
--- the cursor after the first i strings of the table whose SST is at p
-unfoldable pub Reached : List ℕ → ℕ → ℕ → Cursor → Type 0
-Reached s p i c = ends (strings s i (first p (p + 4 + u16_at s (p + 2)))) ≡ got tt c
+-- the cursor after the first i strings of a table
+unfoldable pub Reached : Table → ℕ → Cursor → Type 0
+Reached t i c = ends (strings t.stream.now i (first t.place (end_at t.stream.now t.place))) ≡ got tt c
 
 -- the first i strings of both tables are the same
-pub record Shared (s : List ℕ) (p : ℕ) (t : List ℕ) (q i : ℕ) : Type 0 where
-  pub common : Common (strings_at s p) (strings_at t q) i
+pub record Shared (t u : Table) (i : ℕ) : Type 0 where
+  pub common : Common (strings_in t) (strings_in u) i

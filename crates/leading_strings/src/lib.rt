@@ -1,130 +1,73 @@
 // How many strings at the start of two tables are the same in both: most of them, where one stream is a revision of the other.
 #![tactic(auto)]
 
-ghost use Rattle.std.specs.Prelude.{◌≡◌, [], false, ◌+◌, ◌<◌, get_or};
-ghost use Rattle.reading.specs.Reading.{strings_at};
-ghost use Rattle.text_equality.specs.Characters.{ReadAs};
-ghost use Rattle.differences.specs.Differences.{same};
-ghost use Rattle.string_links.specs.Links.{Tabled, StringAt};
+ghost use Rattle.std.specs.Prelude.{◌≡◌, false, ◌+◌, ◌<◌};
+ghost use Rattle.text_equality.specs.Characters.{units_in};
+ghost use Rattle.string_links.specs.Links.{strings_in, string_in};
 ghost use Rattle.records_abreast.specs.Abreast.{Common};
 ghost use Rattle.leading_strings.specs.Leading.{Reached};
 
-use segments::{Cursor, Moved};
+use segments::Cursor;
+use string_marks::Table;
 use text_equality::Chars;
 
-// Where string i stands: the next one from the cursor on.
-fn string_here(s: &[u8], p: usize, n: u32, c: Cursor, i: u32) -> Cursor
-    requires { Tabled s.now p n × (i < n) × Reached s.now p i c }
-    ensures { StringAt s.now result (get_or (strings_at s.now p) i []) }
+// The characters of string i, the next one from the cursor on.
+#[tactic(auto, using(crate::proofs::Laws::reached_inside, crate::proofs::Laws::here_ok, crate::proofs::Laws::here_units))]
+fn chars_here<'a>(x: &Table<'a>, c: Cursor, i: u32) -> Chars<'a>
+    requires { (i < x.now.count) × Reached x.now i c }
+    ensures { units_in result ≡ string_in x.now i }
 {
-    match strings::next_place(s, c) {
-        Moved::Refused {
-            number: _,
-            offset: _,
-        } => c,
-        Moved::To(d) => d,
-    }
+    let s = x.stream;
+    string_links::chars_of(s, strings::next_place(s, c).unwrap())
 }
 
-// Its characters.
-fn chars_here(s: &[u8], p: usize, n: u32, c: Cursor, i: u32) -> Chars
-    requires { Tabled s.now p n × (i < n) × Reached s.now p i c }
-    ensures { ReadAs s.now result (get_or (strings_at s.now p) i []) }
+// The cursor after it, where another string comes.
+#[tactic(auto, using(crate::proofs::Laws::reached_inside, crate::proofs::Laws::after_reached))]
+fn after(x: &Table, c: Cursor, i: u32) -> Cursor
+    requires { (i < x.now.count) × Reached x.now i c }
+    ensures { i + 1 < x.now.count → Reached x.now (i + 1) result }
 {
-    let d = string_here(s, p, n, c, i);
-    string_links::chars_of(s, d)
-}
-
-// The cursor after it.
-fn after(s: &[u8], p: usize, n: u32, c: Cursor, i: u32) -> Cursor
-    requires { Tabled s.now p n × (i + 1 < n) × Reached s.now p i c }
-    ensures { Reached s.now p (i + 1) result }
-{
-    match strings::skip_strings(s, 1, c) {
-        Moved::Refused {
-            number: _,
-            offset: _,
-        } => c,
-        Moved::To(d) => d,
-    }
-}
-
-// Whether string i is the same in both.
-fn same_string(
-    s: &[u8],
-    p: usize,
-    m: u32,
-    c: Cursor,
-    t: &[u8],
-    q: usize,
-    n: u32,
-    d: Cursor,
-    i: u32,
-) -> bool
-    requires { Tabled s.now p m × (i < m) × Reached s.now p i c × Tabled t.now q n × (i < n) × Reached t.now q i d }
-    ensures { result ≡ same (get_or (strings_at s.now p) i []) (get_or (strings_at t.now q) i []) }
-{
-    let a = chars_here(s, p, m, c, i);
-    let b = chars_here(t, q, n, d, i);
-    text_equality::same_chars(s, a, t, b)
+    strings::skip_strings(x.stream, 1, c).unwrap_or(c)
 }
 
 // Where the first string of a table is looked for.
-fn start(s: &[u8], p: usize, n: u32) -> Cursor
-    requires { Tabled s.now p n × (0 < n) }
-    ensures { Reached s.now p 0 result }
+#[tactic(auto, using(crate::proofs::Laws::later, crate::proofs::Laws::start_fits, crate::proofs::Laws::start_reached))]
+fn start(x: &Table) -> Cursor
+    requires { 0 < x.now.count }
+    ensures { Reached x.now 0 result }
 {
-    let e = string_links::table_end(s, p);
     Cursor {
-        seg: p,
-        at: p + 12,
-        end: e,
+        seg: x.place,
+        at: x.place + 12,
+        end: x.end(),
     }
 }
 
 // Whether a table isn't worth the count: it is empty, or it fills the stream. A string has 3 bytes at least, a cell that shows one has 14: for every 3,600 strings
 // there is to be room for a cell.
-fn idle(s: &[u8], n: u32) -> bool
-    ensures { result ≡ false → 0 < n }
+fn idle(x: &Table) -> bool
+    ensures { result ≡ false → 0 < x.now.count }
 {
-    if n == 0 {
-        return true;
-    }
-    let k = byte_numbers::u32_as_usize(n);
-    if s.len() < k * 3 + k / 256 {
-        return true;
-    }
-    false
+    let n = x.count as usize;
+    n == 0 || x.stream.len() < n * 3 + n / 256
 }
 
-// The strings that are the same at the start of both tables, with m and n strings.
-pub fn in_common(s: &[u8], p: usize, m: u32, t: &[u8], q: usize, n: u32) -> u32
-    requires { Tabled s.now p m × Tabled t.now q n }
-    ensures { Common (strings_at s.now p) (strings_at t.now q) result }
+// The strings that are the same at the start of both tables.
+pub fn in_common(x: &Table, y: &Table) -> u32
+    ensures { Common (strings_in x.now) (strings_in y.now) result }
 {
-    if idle(s, m) {
+    if idle(x) || idle(y) {
         return 0;
     }
-    if idle(t, n) {
-        return 0;
-    }
-    let mut c = start(s, p, m);
-    let mut d = start(t, q, n);
-    let mut i: u32 = 0;
-    loop {
-        if same_string(s, p, m, c, t, q, n, d, i) {
-            let next = i + 1;
-            if next == m {
-                return m;
-            }
-            if next == n {
-                return n;
-            }
-            c = after(s, p, m, c, i);
-            d = after(t, q, n, d, i);
-            i = next;
-        } else {
+    let few = x.count.min(y.count);
+    let mut c = start(x);
+    let mut d = start(y);
+    for i in 0..few {
+        if !chars_here(x, c, i).is_same(&chars_here(y, d, i)) {
             return i;
         }
+        c = after(x, c, i);
+        d = after(y, d, i);
     }
+    few
 }

@@ -2,6 +2,7 @@
 use Prim.Native.Nat.{ℕ, zero, suc, ◌+◌, ◌-◌, ◌≤◌, ◌<◌, max}
 use mathlib.Core.Path.{◌≡◌, refl, sym, ap, ◌∙◌, subst, subst⁻¹}
 use mathlib.Core.List.{List, []}
+use Rattle.std.specs.Prelude.{Option}
 use native.Mathlib.Omega.{arith}
 use lib.ListN.{length}
 use lib.Dec.{eqb}
@@ -14,7 +15,6 @@ use Rattle.record.specs.declared.Header.{Header}
 use Rattle.record.specs.declared.Header.TheVariants.{Record, Cut, End}
 use Rattle.record.specs.Record.{header_at}
 use Rattle.record.proofs.Laws.{whole}
-use Rattle.cell.specs.declared.Shape.{Shape}
 use Rattle.cell.proofs.Sizes.{count_room}
 use Rattle.cell.specs.declared.Cell.{Cell}
 use Rattle.cell.specs.Cells.{shape_of, row_at, count_of, cell_from, cell_of}
@@ -24,7 +24,6 @@ use Rattle.reading.specs.Reading.{rows_of}
 use Rattle.reading.proofs.Laws.{found_absent, cell_here, item_near, listed_step}
 use Rattle.listing.specs.declared.Step.{Step}
 use Rattle.listing.specs.declared.RowStep.{RowStep}
-use Rattle.listing.specs.declared.RowStep.TheVariants as row_step
 use Rattle.listing.specs.Parts.{item_of, over_other, RowsBy}
 use Rattle.listing.proofs.Laws.{inside, by_found}
 
@@ -77,33 +76,32 @@ module _ (s : List ℕ) (v : Place) (t z e : ℕ) where
       (omega arith, n)
   over_by ends h n f = rows_none (listed_step s v ∙ ap (λ (y : Item Place Cell). onto y (λ q. listed_from s q)) h)
 
-  over : cell_item s v ≡ other_item v t e → (r : RowStep) → r ≡ over_other (other_item v t e) → RowsBy s v r
+  over : cell_item s v ≡ other_item v t e → (r : Option RowStep) → r ≡ over_other (other_item v t e) → RowsBy s v r
   over h r i = subst⁻¹ (RowsBy s v) i (over_by (other_item v t e) h (subst (Nearer (remaining s) v) h (item_near s v)) no_cell)
 
   module _ (head : header_at s v.at ≡ Record t z e) where
-    pub rows_inside : (r : RowStep) → (v.level ≡ 0 → ⊥) → r ≡ over_other (other_item v t e) → RowsBy s v r
+    pub rows_inside : (r : Option RowStep) → (v.level ≡ 0 → ⊥) → r ≡ over_other (other_item v t e) → RowsBy s v r
     unfolding cell_item
     rows_inside r h i = over (ap (on_header s v) head ∙ sym (inside s v t z e (other_item v t e) h refl)) r i
 
-    module _ (n : ℕ) (level : v.level ≡ 0) (is : n ≡ count_of (shape_of t) s v.at z) where
-      pub rows_over : (r : RowStep) → n ≤ v.part → r ≡ over_other (other_item v t e) → RowsBy s v r
-      unfolding cell_item
-      rows_over r h i = over (ap (on_header s v) head ∙ sym (by_found s v t z e (other_item v t e) level refl (sym (found_absent s (shape_of t) v.at z v.part (omega arith))) refl)) r i
+    pub rows_over : (r : Option RowStep) → v.level ≡ 0 → count_of (shape_of t) s v.at z ≤ v.part → r ≡ over_other (other_item v t e) → RowsBy s v r
+    unfolding cell_item
+    rows_over r level past i = over (ap (on_header s v) head ∙ sym (by_found s v t z e (other_item v t e) level refl (sym (found_absent s (shape_of t) v.at z v.part past)) refl)) r i
 
-      pub rows_cells : v.part < n → (row k : ℕ) → row ≡ u16_at s (v.at + 4) → k ≡ row + 1 → (w : Place) → w ≡ place_at e 0 → rows_of (listed_from s v) ≡ max k (rows_of (listed_from s w))
-      unfolding row_at
-      rows_cells h row k a b w i =
-          ap (λ (y : ℕ). rows_of (listed_from s (record { at = v.at; part = v.part; level = y }))) level
-          ∙ rows_record s v.at t z e head v.part (omega arith)
-          ∙ ap (λ (y : ℕ). max y (rows_of (listed_from s (place_at e 0)))) (let q : u16_at s (v.at + 4) + 1 ≡ k = omega arith in q)
-          ∙ ap (λ (p : Place). max k (rows_of (listed_from s p))) (sym i)
+-- a step over a record whose k-th cell is there
+module _ (s : List ℕ) (v : Place) (t z e : ℕ) (head : header_at s v.at ≡ Record t z e) (level : v.level ≡ 0) (there : v.part < count_of (shape_of t) s v.at z) where
+  pub rows_cells : rows_of (listed_from s v) ≡ max (u16_at s (v.at + 4) + 1) (rows_of (listed_from s (place_at e 0)))
+  unfolding row_at
+  rows_cells =
+      ap (λ (y : ℕ). rows_of (listed_from s (record { at = v.at; part = v.part; level = y }))) level
+      ∙ rows_record s v.at t z e head v.part there
 
-pub rows_past : (s : List ℕ) (v : Place) (t z e : ℕ) → header_at s v.at ≡ Record t z e → (w : Place) → w ≡ place_at e 0 → remaining s w < remaining s v
-unfolding remaining place_at
-rows_past s v t z e head w i = let r = whole s v.at t z e head in rw i (omega arith)
+  pub rows_past : remaining s (place_at e 0) < remaining s v
+  unfolding remaining place_at
+  rows_past = let r = whole s v.at t z e head in omega arith
 
-pub row_within : (s : List ℕ) (h : Shape) (at t z e n k : ℕ) → header_at s at ≡ Record t z e → n ≡ count_of h s at z → k < n → at + 4 + 2 ≤ length s
-row_within s h at t z e n k head is l = let w = whole s at t z e head in let r = count_room s at z k h (omega arith) in omega arith
+  pub row_within : v.at + 4 + 2 ≤ length s
+  row_within = let w = whole s v.at t z e head in let r = count_room s v.at z v.part (shape_of t) there in omega arith
 
 pub head_is : (s : List ℕ) (at t z e : ℕ) {r : Header} → r ≡ header_at s at → r ≡ Record t z e → header_at s at ≡ Record t z e
 head_is s at t z e is h = sym is ∙ h
@@ -117,7 +115,7 @@ module _ (s : List ℕ) (v : Place) {r : Header} (is : r ≡ header_at s v.at) w
   unfolding cell_item
   rows_done h = rows_none (listed_step s v ∙ ap (λ (x : Header). onto (on_header s v x) (λ p. listed_from s p)) (sym is ∙ h))
 
-pub by_other : (i : Item Place Cell) (y : RowStep) {r x : Step} → item_of r ≡ i → r ≡ x → y ≡ over_other (item_of x) → y ≡ over_other i
+pub by_other : (i : Item Place Cell) (y : Option RowStep) {r x : Step} → item_of r ≡ i → r ≡ x → y ≡ over_other (item_of x) → y ≡ over_other i
 by_other i y is h g = g ∙ ap over_other (ap item_of (sym h) ∙ is)
 
 pub ruleset row_laws = (row_within, rows_inside, rows_over, rows_cells, rows_past, head_is, rows_cut, rows_done, by_other, refl')
@@ -125,19 +123,3 @@ pub ruleset row_laws = (row_within, rows_inside, rows_over, rows_cells, rows_pas
 -- the rows counted: the most so far, the others from v on
 abbrev pub Counted : List ℕ → Place → ℕ → Place → Type 0
 Counted s v₀ most v = rows_of (listed_from s v₀) ≡ max most (rows_of (listed_from s v))
-
-module _ (s : List ℕ) (v₀ v : Place) (most : ℕ) (inv : Counted s v₀ most v) (r : RowStep) (by : RowsBy s v r) where
-  pub rows_most : r ≡ row_step.Ends → most ≡ rows_of (listed_from s v₀)
-  rows_most h = let e : rows_of (listed_from s v) ≡ 0 = subst (RowsBy s v) h by in omega arith
-
-  module _ (k : ℕ) (w : Place) (h : r ≡ row_step.Rows k w) where
-    pub rows_again : (m : ℕ) → m ≡ max most k → Counted s v₀ m w
-    rows_again m e = let f : RowsBy s v (row_step.Rows k w) = subst (RowsBy s v) h by in let g = f.0 in omega arith
-
-pub rows_less : (s : List ℕ) (v : Place) (r : RowStep) → RowsBy s v r → (k : ℕ) (w : Place) → r ≡ row_step.Rows k w → remaining s w < remaining s v
-rows_less s v r by k w h = let f : RowsBy s v (row_step.Rows k w) = subst (RowsBy s v) h by in f.1
-
-pub rows_start : (s : List ℕ) (v : Place) → Counted s v 0 v
-rows_start s v = omega arith
-
-pub ruleset count_laws = (rows_start, rows_most, rows_again, rows_less)

@@ -8,6 +8,7 @@ use native.Mathlib.Omega.{arith}
 use lib.ListN.{length, drop}
 use lib.Dec.{eqb}
 use borrow.Author.Tests.{eqb-true, ltb-true, lt-ltb}
+use Rattle.std.specs.Prelude.{Some, Ok}
 use Rattle.steps.specs.Choice.{pick}
 use Rattle.steps.proofs.Choice.{pick_same, pick_by}
 use Rattle.byte_numbers.specs.Bytes.{num_at, u16_at, u32_at}
@@ -19,7 +20,6 @@ use Rattle.value.specs.declared.Field.TheVariants.{TextIndex}
 use Rattle.value.specs.Value.{index_fits}
 use Rattle.cell.specs.declared.Shape.{Shape}
 use Rattle.cell.specs.declared.Shape.TheVariants.{LABELSST}
-use Rattle.cell.specs.declared.Judged.TheVariants as judged
 use Rattle.cell.specs.Cells.{shape_of, field_of, first_at, field_at, fields_fit, judged as judged_at, judge_of, sized, count_of}
 use Rattle.record_after.specs.Claims.{Right}
 use Rattle.record_after.proofs.Records.{right, passes}
@@ -86,7 +86,7 @@ unfolding fields_fit pick
 text_fits s zero q = refl
 text_fits s (suc n) q = text_fits s n (q + 6)
 
-pub label_moved : (s t : List ℕ) (p q z u u' n : ℕ) → Same (drop p s) (drop q t) 0 10 → u32_at t (q + 10) < u' → judge_of s LABELSST p z u ≡ judged.Passed n → judge_of t LABELSST q z u' ≡ judged.Passed n
+pub label_moved : (s t : List ℕ) (p q z u u' n : ℕ) → Same (drop p s) (drop q t) 0 10 → u32_at t (q + 10) < u' → judge_of s LABELSST p z u ≡ Ok (Some n) → judge_of t LABELSST q z u' ≡ Ok (Some n)
 unfolding first_at field_at
 label_moved s t p q z u u' n same below h =
     let r : Right s LABELSST p z u n = right s LABELSST p z u n h in
@@ -100,7 +100,7 @@ label_moved s t p q z u u' n same below h =
       index = lt-ltb _ _ (rw place at below);
     })
 
-pub label_index : (s : List ℕ) (p z u n : ℕ) → judge_of s LABELSST p z u ≡ judged.Passed n → (z ≡ 10) × (u32_at s (p + 10) < u)
+pub label_index : (s : List ℕ) (p z u n : ℕ) → judge_of s LABELSST p z u ≡ Ok (Some n) → (z ≡ 10) × (u32_at s (p + 10) < u)
 unfolding field_at pick sized
 label_index s p z u n h =
     let r : Right s LABELSST p z u n = right s LABELSST p z u n h in

@@ -6,16 +6,17 @@ use mathlib.Core.Bool.{Bool, false}
 use native.Mathlib.Omega.{arith}
 use lib.ListN.{drop}
 use lib.Dec.{leb}
+use Rattle.std.specs.Prelude.{Option, Some, None, Result, Ok, Err}
 use Rattle.steps.specs.Choice.{pick}
+use Rattle.refusal.specs.declared.Refusal.{Refusal}
+use Rattle.refusal.specs.Refused.{refuse}
 use Rattle.value.specs.declared.Field.{Field}
 use Rattle.value.specs.Value.{width_of, value_fits}
 use Rattle.cell.specs.declared.Shape.{Shape}
 use Rattle.cell.specs.declared.Shape.TheVariants.{BLANK, NUMBER, RK, LABELSST, BOOLERR, MULRK, MULBLANK, FORMULA, OTHER}
-use Rattle.cell.specs.declared.Judged.{Judged}
-use Rattle.cell.specs.declared.Judged.TheVariants as judged
 use Rattle.cell.specs.Cells.{shape_of, field_of, part_of, start_of, row_at, first_at, last_at, sized, columns, multiple, length_at, count_of, field_at, fields_fit, judged as judged_at, judge_of}
 use Rattle.substream.specs.declared.Here.{Here}
-use Rattle.substream.specs.declared.Step.TheVariants.{Open, Stop}
+use Rattle.substream.specs.declared.Step.TheVariants.{Open}
 use Rattle.substream.specs.Substream.{inner_bof, other_record, dimensions_fit, dimensions_record, on_text, passed_record, on_judged, record_in}
 use Rattle.segments.specs.Segments.{Got, got, refused}
 use Rattle.text_result.specs.TextResult.{text_of}
@@ -70,8 +71,8 @@ module _ (s : List ℕ) (p : ℕ) where
   zero_on : p + 0 ≡ p
   zero_on = omega arith
 
-  refused_drop : (n : ℕ) → later_judged p (judged.Refused n 0) ≡ judged.Refused n p
-  refused_drop n = ap (judged.Refused n) zero_on
+  refused_drop : (n : ℕ) → later_judged p (refuse n 0) ≡ refuse n p
+  refused_drop n = λ i. refuse n (zero_on i)
 
   judged_drop : (h : Shape) (z u : ℕ) → later_judged p (judged_at (drop p s) h 0 z u) ≡ judged_at s h p z u
   unfolding judged_at
@@ -92,14 +93,14 @@ module _ (s : List ℕ) (p : ℕ) where
     abbrev v : Here
     v = record { at = p; orphan = o }
 
-    stop_drop : (n : ℕ) → later_step p (Stop n 0) ≡ Stop n p
-    stop_drop n = ap (Stop n) zero_on
+    stop_drop : (n : ℕ) → later_step p (refuse n 0) ≡ refuse n p
+    stop_drop n = λ i. refuse n (zero_on i)
 
     bof_drop : later_step p (inner_bof (drop p s) k 0 z) ≡ inner_bof s k p z
     unfolding inner_bof
     bof_drop =
         rw (num_drop s p 2 6)
-        (pick_map (later_step p) _ (pick_map (later_step p) _ (stop_drop 4) (pick_map (later_step p) _ (ap Open zero_on) (stop_drop 4))) (stop_drop 6))
+        (pick_map (later_step p) _ (pick_map (later_step p) _ (stop_drop 4) (pick_map (later_step p) _ (λ i. Ok (Open (zero_on i))) (stop_drop 4))) (stop_drop 6))
 
     other_drop : later_step p (other_record (drop p s) k v₀ t z e) ≡ other_record s k v t z (p + e)
     unfolding other_record
@@ -123,10 +124,10 @@ module _ (s : List ℕ) (p : ℕ) where
         rw (has_drop s p t)
         (pick_map (later_step p) _ (on_text_drop (text_of (drop p s) 0 e) ∙ ap on_text (text_drop s p 0 e ∙ ap (λ (f : ℕ). text_of s f (p + e)) zero_on)) refl)
 
-    on_judged_drop : (x : Judged) → later_step p (on_judged (drop p s) k v₀ t z e x) ≡ on_judged s k v t z (p + e) (later_judged p x)
-    on_judged_drop (judged.Passed n) = passed_drop
-    on_judged_drop (judged.Refused n o) = refl
-    on_judged_drop judged.Other = pick_map (later_step p) _ dimensions_drop (pick_map (later_step p) _ (stop_drop 6) other_drop)
+    on_judged_drop : (x : Result (Option ℕ) Refusal) → later_step p (on_judged (drop p s) k v₀ t z e x) ≡ on_judged s k v t z (p + e) (later_judged p x)
+    on_judged_drop (Ok (Some n)) = passed_drop
+    on_judged_drop (Err r) = refl
+    on_judged_drop (Ok None) = pick_map (later_step p) _ dimensions_drop (pick_map (later_step p) _ (stop_drop 6) other_drop)
 
     pub record_drop : later_step p (record_in (drop p s) k u v₀ t z e) ≡ record_in s k u v t z (p + e)
     unfolding record_in

@@ -5,9 +5,11 @@ use mathlib.Core.List.{List, [], ◌∷◌, ◌++◌, append_assoc}
 use native.Mathlib.Omega.{arith}
 use lib.ListN.{length, take, drop, length-append}
 use lib.Seq.{length-take-le}
-use Rattle.new_stream.specs.Entries.{Entry}
+use Rattle.new_stream.specs.declared.Entry.{Entry}
+use Rattle.new_stream.specs.Entries.{size_for}
 use Rattle.reading.specs.Claims.{Every}
-use Rattle.copied_records.specs.Copied.{size_for, sizes, Change, edited}
+use Rattle.new_places.specs.Places.{sizes}
+use Rattle.copied_records.specs.Copied.{Change, edited}
 
 -- the bytes of the entries joined, R being what each holds
 pub data Held (R : Entry → List ℕ → Type 0) : List Entry → List ℕ → Type 0 where

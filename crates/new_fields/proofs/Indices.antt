@@ -1,28 +1,27 @@
 -- The functions' laws. Assumes nothing.
-use Prim.Native.Nat.{ℕ, ◌+◌, ◌-◌, ◌*◌, ◌≤◌, ◌<◌}
+use Prim.Native.Nat.{ℕ, ◌+◌, ◌-◌, ◌*◌, ◌≤◌, ◌<◌, max}
 use mathlib.Core.Path.{◌≡◌, refl, sym, ap, ◌∙◌, subst}
 use mathlib.Core.List.{List, [], ◌∷◌}
-use mathlib.Core.Bool.{false}
 use native.Mathlib.Omega.{arith}
 use lib.ListN.{length}
 use lib.Dec.{ltb, leb}
 use borrow.Author.Tests.{ltb-true, ltb-false, leb-true}
+use Rattle.std.specs.Prelude.{Option, Some, None}
 use Rattle.steps.specs.Choice.{pick}
-use Rattle.steps.proofs.Choice.{never, pick_by, pick_lt, pick_nlt, pick_same}
+use Rattle.steps.proofs.Choice.{never, pick_by, pick_same}
 use Rattle.byte_numbers.specs.Bytes.{u32_at, bytes_at, bytes_of}
 use lib.Seq.{sets}
 use Rattle.reading.specs.Claims.{Every}
-use Rattle.new_stream.specs.Entries as entries
-use Rattle.new_stream.specs.Entries.{Entry, entry_item, entries_from, entries_of}
+use Rattle.new_stream.specs.declared.Fate.{Fate}
+use Rattle.new_stream.specs.declared.Fate.TheVariants.{Stays, Goes, Table, Text, Sheet}
+use Rattle.new_stream.specs.declared.Entry.{Entry}
+use Rattle.new_stream.specs.Entries.{start, entries_of}
 use Rattle.new_stream.specs.Compact.{on_text, texts_in, used_below, index_in}
 use Rattle.new_stream.proofs.Places.{index_some}
-use Rattle.new_places.specs.declared.Spot.{Spot}
-use Rattle.new_places.specs.declared.Fate.{Fate}
-use Rattle.new_places.specs.declared.Fate.TheVariants.{Stays, Goes, Table, Text, Sheet}
-use Rattle.new_places.specs.declared.Step.{Step}
-use Rattle.new_places.specs.declared.Step.TheVariants.{Record, Rest, End}
-use Rattle.new_places.specs.Parts.{fated, spot_of, item_of}
-use Rattle.new_places.proofs.Walking.{entries_are, ahead_are, rest_are}
+use Rattle.new_places.specs.Parts.{text_index}
+use Rattle.new_places.proofs.Lying.{Lying, lying_start, lying_low, lying_next}
+use Rattle.new_places.proofs.Texts.{texts_none, texts_more}
+use Rattle.new_places.proofs.Whole.{entries_few}
 use Rattle.copied_records.specs.Copied.{edited}
 use Rattle.copied_records.proofs.Editing.{edited_length, edited_same}
 use Rattle.new_fields.specs.Edited.{text_change, Roomy}
@@ -33,171 +32,77 @@ use Rattle.flags.specs.Flags.{set_below}
 use Rattle.flags.specs.Parts.{Ranked}
 use Rattle.used_strings.specs.Marked.{Flagged}
 use Rattle.used_strings.proofs.Marks.{used_low, used_from}
-use Rattle.new_fields.specs.declared.Census.{Census}
 use Rattle.new_fields.specs.Runs.{top_in, reindexed, Runs, none, then, Reindexed}
 
--- ---- counting
-module _ (i t : ℕ) where
-  pub top_less : i < t → t ≡ top_in (i ∷ []) t
-  unfolding top_in
-  top_less h = pick_lt t _ _ i t h refl
+-- ---- counting: what is left of the entries, and what is counted so far
+pub record Counting (s : List ℕ) (l : List Entry) (total top : ℕ) : Type 0 where
+  pub lies : Lying s l
+  pub few : total + length l ≤ length s
+  pub total_is : total + length (texts_in s l) ≡ length (texts_in s (entries_of s))
+  pub top_is : top_in (texts_in s l) top ≡ top_in (texts_in s (entries_of s)) 0
 
-  pub top_more : t ≤ i → i + 1 ≡ top_in (i ∷ []) t
-  unfolding top_in
-  top_more h = pick_nlt (i + 1) _ _ i t h refl
+pub counting_start : (s : List ℕ) (l : List Entry) → length s ≤ 16777216 → l ≡ entries_of s → Counting s l 0 0
+counting_start s l h i = record {
+  lies = lying_start s l h i;
+  few = let a = entries_few s start in rw i (omega arith);
+  total_is = rw i (omega arith);
+  top_is = rw i refl;
+}
 
-pub ruleset top_laws = (top_less, top_more)
-
-module _ (s : List ℕ) (p : ℕ) (x : Fate) where
-  abbrev l : List ℕ
-  l = on_text s p (fated x) []
-
-  pub count_text : (a b i j : ℕ) → x ≡ Text → j ≡ u32_at s (p + 10) → i ≡ j → b ≡ a + 1 → b ≡ a + length l
-  count_text a b i j e f g h = rw e h
-
-  pub top_text : (a b i j : ℕ) → x ≡ Text → j ≡ u32_at s (p + 10) → i ≡ j → b ≡ top_in (i ∷ []) a → b ≡ top_in l a
-  top_text a b i j e f g h = rw e (h ∙ ap (λ (k : ℕ). top_in (k ∷ []) a) (g ∙ f))
-
-module _ (s : List ℕ) (p : ℕ) (x : Fate) (a : ℕ) where
-  pub count_stays : x ≡ Stays → a ≡ a + length (on_text s p (fated x) [])
-  count_stays e = rw e (omega arith)
-
-  pub count_goes : x ≡ Goes → a ≡ a + length (on_text s p (fated x) [])
-  count_goes e = rw e (omega arith)
-
-  pub count_table : x ≡ Table → a ≡ a + length (on_text s p (fated x) [])
-  count_table e = rw e (omega arith)
-
-  pub count_sheet : x ≡ Sheet → a ≡ a + length (on_text s p (fated x) [])
-  count_sheet e = rw e (omega arith)
-
-  pub top_stays : x ≡ Stays → a ≡ top_in (on_text s p (fated x) []) a
-  unfolding top_in
-  top_stays e = ap (λ (y : Fate). top_in (on_text s p (fated y) []) a) (sym e)
-
-  pub top_goes : x ≡ Goes → a ≡ top_in (on_text s p (fated x) []) a
-  unfolding top_in
-  top_goes e = ap (λ (y : Fate). top_in (on_text s p (fated y) []) a) (sym e)
-
-  pub top_table : x ≡ Table → a ≡ top_in (on_text s p (fated x) []) a
-  unfolding top_in
-  top_table e = ap (λ (y : Fate). top_in (on_text s p (fated y) []) a) (sym e)
-
-  pub top_sheet : x ≡ Sheet → a ≡ top_in (on_text s p (fated x) []) a
-  unfolding top_in
-  top_sheet e = ap (λ (y : Fate). top_in (on_text s p (fated y) []) a) (sym e)
-
-pub ruleset count_laws = (count_text, top_text, count_stays, count_goes, count_table, count_sheet, top_stays, top_goes, top_table, top_sheet)
-
-on_length : (s : List ℕ) (p : ℕ) (x : Fate) (k : List ℕ) → length (on_text s p (fated x) k) ≡ length (on_text s p (fated x) []) + length k
-on_length s p Stays k = omega arith
-on_length s p Goes k = omega arith
-on_length s p Table k = omega arith
-on_length s p Text k = omega arith
-on_length s p Sheet k = omega arith
-
-on_few : (s : List ℕ) (p : ℕ) (x : Fate) → length (on_text s p (fated x) []) ≤ 1
-on_few s p Stays = omega arith
-on_few s p Goes = omega arith
-on_few s p Table = omega arith
-on_few s p Text = omega arith
-on_few s p Sheet = omega arith
-
-on_top_lem : (s : List ℕ) (p : ℕ) (x : Fate) (k : List ℕ) (r : ℕ) → top_in (on_text s p (fated x) k) r ≡ top_in k (top_in (on_text s p (fated x) []) r)
+top_first : (i : ℕ) (t : List ℕ) (r : ℕ) → top_in (i ∷ t) r ≡ top_in t (max (i + 1) r)
 unfolding top_in
-on_top_lem s p Stays k r = refl
-on_top_lem s p Goes k r = refl
-on_top_lem s p Table k r = refl
-on_top_lem s p Text k r = refl
-on_top_lem s p Sheet k r = refl
+top_first i t r = ap (top_in t) (pick_by (λ (n : ℕ). n ≡ max (i + 1) r) (ltb i r) (λ e. let a = ltb-true i r e in omega arith) (λ e. let a = ltb-false i r e in omega arith))
 
-pub record Counting (s : List ℕ) (w : Spot) (c : Census) : Type 0 where
-  pub short : length s ≤ 16777216
-  pub within : w.at ≤ length s
-  pub level : w.level ≤ w.at
-  pub few : c.total ≤ w.at
-  pub total : c.total + length (texts_in s (entries_from s (spot_of w))) ≡ length (texts_in s (entries_of s))
-  pub top : top_in (texts_in s (entries_from s (spot_of w))) c.top ≡ top_in (texts_in s (entries_of s)) 0
+module _ {s : List ℕ} {l : List Entry} {total top : ℕ} (g : Counting s l total top) where
+  pub count_total : l ≡ [] → total ≡ length (texts_in s (entries_of s))
+  count_total i = let a = ap length (texts_none s l i) in let b = g.total_is in omega arith
 
-pub counting_start : (s : List ℕ) → length s ≤ 16777216 → Counting s (record { at = 0; level = 0; kind = 0; gone = false }) (record { total = 0; top = 0 })
-counting_start s h = record { short = h; within = omega arith; level = omega arith; few = omega arith; total = omega arith; top = refl }
+  pub count_top : l ≡ [] → top ≡ top_in (texts_in s (entries_of s)) 0
+  unfolding top_in
+  count_top i = ap (λ (t : List ℕ). top_in t top) (sym (texts_none s l i)) ∙ g.top_is
 
-module _ (s : List ℕ) (w : Spot) (c : Census) (g : Counting s w c) where
-  pub counting_level : w.level < 9223372036854775808
-  counting_level = let a = g.level in let b = g.within in let d = g.short in omega arith
+  module _ (x : Entry) (l' : List Entry) (i : l ≡ x ∷ l') where
+    pub count_low : x.at < 4294967200
+    count_low = lying_low g.lies x l' i
 
-  pub counting_low : w.at < 4294967200
-  counting_low = let b = g.within in let d = g.short in omega arith
+    pub count_few : total + 1 ≤ 16777216
+    count_few = let a = ap length i in let b = g.few in let c = g.lies.short in omega arith
 
-  pub counting_few : c.total < 4294967296
-  counting_few = let a = g.few in let b = g.within in let d = g.short in omega arith
+    module _ {r : Option ℕ} (is : r ≡ text_index s x.at x.fate) where
+      pub count_other : r ≡ None → Counting s l' total top
+      count_other e =
+          let t : texts_in s l ≡ texts_in s l' = texts_more s l x l' i (sym e ∙ is) in
+          let a = ap length i in
+          let b = g.few in
+          record { lies = lying_next g.lies x l' i; few = omega arith; total_is = ap (λ (t : List ℕ). total + length t) (sym t) ∙ g.total_is; top_is = ap (λ (t : List ℕ). top_in t top) (sym t) ∙ g.top_is }
 
-  module _ (r : Step) (is : item_of s w r ≡ entry_item s (spot_of w)) where
-    module _ (z : ℕ) (f : Fate) (v : Spot) (h : r ≡ Record z f v) where
-      pub counting_less : length s - v.at < length s - w.at
-      counting_less = let a = ahead_are s w r is (Record z f v) h in omega arith
-
-      texts_are : texts_in s (entries_from s (spot_of w)) ≡ on_text s w.at (fated f) (texts_in s (entries_from s (spot_of v)))
-      unfolding texts_in
-      texts_are = ap (texts_in s) (entries_are s w r is (Record z f v) h)
-
-      pub counting_next : (x : Census) → x.total ≡ c.total + length (on_text s w.at (fated f) []) → x.top ≡ top_in (on_text s w.at (fated f) []) c.top → Counting s v x
-      counting_next x e k =
-          let a = ahead_are s w r is (Record z f v) h in
-          let lv = g.level in
-          let fw = g.few in
-          let b : length (texts_in s (entries_from s (spot_of w))) ≡ length (on_text s w.at (fated f) []) + length (texts_in s (entries_from s (spot_of v))) = ap length texts_are ∙ on_length s w.at f (texts_in s (entries_from s (spot_of v))) in
-          let t = g.total in
-          let o = on_few s w.at f in
+      pub count_text : (k y : ℕ) → r ≡ Some k → y ≡ max (k + 1) top → Counting s l' (total + 1) y
+      count_text k y e h =
+          let t : texts_in s l ≡ k ∷ texts_in s l' = texts_more s l x l' i (sym e ∙ is) in
+          let a = ap length i in
+          let b = g.few in
+          let c = ap length t in
+          let d = g.total_is in
           record {
-            short = g.short;
-            within = a.2;
-            level = omega arith;
+            lies = lying_next g.lies x l' i;
             few = omega arith;
-            total = omega arith;
-            top = ap (top_in (texts_in s (entries_from s (spot_of v)))) k ∙ sym (on_top_lem s w.at f (texts_in s (entries_from s (spot_of v))) c.top) ∙ ap (λ (y : List ℕ). top_in y c.top) (sym texts_are) ∙ g.top;
+            total_is = omega arith;
+            top_is = ap (top_in (texts_in s l')) h ∙ sym (top_first k (texts_in s l') top) ∙ ap (λ (t : List ℕ). top_in t top) (sym t) ∙ g.top_is;
           }
 
-    texts_rest : r ≡ Rest → texts_in s (entries_from s (spot_of w)) ≡ []
-    unfolding texts_in
-    texts_rest h = ap (texts_in s) (rest_are s w r is h)
-
-    texts_end : r ≡ End → texts_in s (entries_from s (spot_of w)) ≡ []
-    unfolding texts_in
-    texts_end h = ap (texts_in s) (entries_are s w r is End h)
-
-    none_total : texts_in s (entries_from s (spot_of w)) ≡ [] → c.total ≡ length (texts_in s (entries_of s))
-    none_total e = let a = ap length e in let b = g.total in omega arith
-
-    none_top : texts_in s (entries_from s (spot_of w)) ≡ [] → c.top ≡ top_in (texts_in s (entries_of s)) 0
-    unfolding top_in
-    none_top e = ap (λ (y : List ℕ). top_in y c.top) (sym e) ∙ g.top
-
-    pub rest_total : r ≡ Rest → c.total ≡ length (texts_in s (entries_of s))
-    rest_total h = none_total (texts_rest h)
-
-    pub rest_top : r ≡ Rest → c.top ≡ top_in (texts_in s (entries_of s)) 0
-    rest_top h = none_top (texts_rest h)
-
-    pub end_total : r ≡ End → c.total ≡ length (texts_in s (entries_of s))
-    end_total h = none_total (texts_end h)
-
-    pub end_top : r ≡ End → c.top ≡ top_in (texts_in s (entries_of s)) 0
-    end_top h = none_top (texts_end h)
-
-pub ruleset census_laws = (counting_start, counting_level, counting_low, counting_few, counting_less, counting_next, rest_total, rest_top, end_total, end_top)
+pub ruleset count_laws = (count_total, count_top, count_low, count_few, count_other, count_text)
 
 -- ---- the ranks of a chunk are the new indices
 -- where the two agree on the chunk's indices
-text_same : (s : List ℕ) (index index' : ℕ → ℕ) (base m : ℕ) → ((i : ℕ) → base ≤ i → i < base + m → index i ≡ index' i) → (p z : ℕ) (x : entries.Fate) (o : List ℕ) (q : ℕ) → text_change s index base m p z x o q ≡ text_change s index' base m p z x o q
-text_same s index index' base m h p z entries.stays o q = refl
-text_same s index index' base m h p z entries.goes o q = refl
-text_same s index index' base m h p z entries.table o q = refl
-text_same s index index' base m h p z entries.text o q =
+text_same : (s : List ℕ) (index index' : ℕ → ℕ) (base m : ℕ) → ((i : ℕ) → base ≤ i → i < base + m → index i ≡ index' i) → (p z : ℕ) (x : Fate) (o : List ℕ) (q : ℕ) → text_change s index base m p z x o q ≡ text_change s index' base m p z x o q
+text_same s index index' base m h p z Stays o q = refl
+text_same s index index' base m h p z Goes o q = refl
+text_same s index index' base m h p z Table o q = refl
+text_same s index index' base m h p z Text o q =
     pick_same (leb base (u32_at s (p + 10))) _ _ _ _
     (λ e. pick_same (ltb (u32_at s (p + 10)) (base + m)) _ _ _ _ (λ d. ap (λ (k : ℕ). sets o (q + 10) (bytes_of 4 k)) (h (u32_at s (p + 10)) (leb-true base (u32_at s (p + 10)) e) (ltb-true (u32_at s (p + 10)) (base + m) d))) (λ d. refl))
     (λ e. refl)
-text_same s index index' base m h p z entries.sheet o q = refl
+text_same s index index' base m h p z Sheet o q = refl
 
 module _ (s : List ℕ) (base start n : ℕ) (flags : List ℕ) (made : Flagged (texts_in s (entries_of s)) base n flags) (from : start ≡ used_below (texts_in s (entries_of s)) base) where
   abbrev texts : List ℕ
@@ -229,8 +134,8 @@ module _ (s : List ℕ) (base start n : ℕ) (flags : List ℕ) (made : Flagged 
   pub chunk_length : length flags ≡ n
   chunk_length = made.size
 
-pub ranked_length : (start : ℕ) (l r : List ℕ) → Ranked start l r → length r ≡ length l
-ranked_length start l r g = g.size
+pub ranked_length : (b : ℕ) (l r : List ℕ) → Ranked b l r → length r ≡ length l
+ranked_length b l r g = g.size
 
 pub ruleset chunk_laws = (chunk_rank, chunk_done, chunk_few, chunk_equal, chunk_length, ranked_length)
 
@@ -339,18 +244,18 @@ top_step : (x : ℕ) (l : List ℕ) (r : ℕ) → top_in (x ∷ l) r ≡ top_in 
 unfolding top_in
 top_step x l r = refl
 
-pub all_below : (s : List ℕ) (l : List Entry) (r top : ℕ) → top_in (texts_in s l) r ≤ top → Every (λ (x : Entry). x.fate ≡ entries.text → u32_at s (x.at + 10) < top) l
+pub all_below : (s : List ℕ) (l : List Entry) (r top : ℕ) → top_in (texts_in s l) r ≤ top → Every (λ (x : Entry). x.fate ≡ Text → u32_at s (x.at + 10) < top) l
 unfolding texts_in
 all_below s [] r top h = tt
 all_below s (x ∷ l) r top h = by x.fate refl h (λ r k. all_below s l r top k)
   where
-    by : (f : entries.Fate) → x.fate ≡ f → top_in (on_text s x.at f (texts_in s l)) r ≤ top → ((r : ℕ) → top_in (texts_in s l) r ≤ top → Every (λ (x : Entry). x.fate ≡ entries.text → u32_at s (x.at + 10) < top) l)
-        → (x.fate ≡ entries.text → u32_at s (x.at + 10) < top) × Every (λ (x : Entry). x.fate ≡ entries.text → u32_at s (x.at + 10) < top) l
-    by entries.stays e k ih = ((λ i. never (cc)), ih r k)
-    by entries.goes e k ih = ((λ i. never (cc)), ih r k)
-    by entries.table e k ih = ((λ i. never (cc)), ih r k)
-    by entries.text e k ih = ((λ i. let a = top_over (u32_at s (x.at + 10)) (texts_in s l) r in omega arith), ih _ (text_step k))
+    by : (f : Fate) → x.fate ≡ f → top_in (on_text s x.at f (texts_in s l)) r ≤ top → ((r : ℕ) → top_in (texts_in s l) r ≤ top → Every (λ (x : Entry). x.fate ≡ Text → u32_at s (x.at + 10) < top) l)
+        → (x.fate ≡ Text → u32_at s (x.at + 10) < top) × Every (λ (x : Entry). x.fate ≡ Text → u32_at s (x.at + 10) < top) l
+    by Stays e k ih = ((λ i. never (cc)), ih r k)
+    by Goes e k ih = ((λ i. never (cc)), ih r k)
+    by Table e k ih = ((λ i. never (cc)), ih r k)
+    by Text e k ih = ((λ i. let a = top_over (u32_at s (x.at + 10)) (texts_in s l) r in omega arith), ih _ (text_step k))
       where
         text_step : top_in (u32_at s (x.at + 10) ∷ texts_in s l) r ≤ top → top_in (texts_in s l) (pick (ltb (u32_at s (x.at + 10)) r) r (u32_at s (x.at + 10) + 1)) ≤ top
         text_step k = subst (λ (n : ℕ). n ≤ top) (top_step (u32_at s (x.at + 10)) (texts_in s l) r) k
-    by entries.sheet e k ih = ((λ i. never (cc)), ih r k)
+    by Sheet e k ih = ((λ i. never (cc)), ih r k)

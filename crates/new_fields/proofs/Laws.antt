@@ -1,29 +1,30 @@
 -- The functions' laws. Assumes nothing.
 use Prim.Native.Nat.{ℕ, ◌+◌, ◌-◌, ◌*◌, ◌/◌, ◌≤◌, ◌<◌}
-use mathlib.Core.Path.{◌≡◌, refl, ap, ◌∙◌}
-use mathlib.Core.List.{List}
-use mathlib.Core.Bool.{false}
+use mathlib.Core.Path.{◌≡◌, refl, sym, ap, ◌∙◌}
+use mathlib.Core.List.{List, ◌∷◌}
 use native.Mathlib.Omega.{arith}
 use native.Mathlib.Nat.{le_trans, mul-le-mul_right, div-mul-le_self, div-lt_iff_lt-mul}
+use mathlib.Core.Bool.{Bool, true, false}
 use lib.ListN.{length}
 use lib.Seq.{sets, length-sets}
-use Rattle.steps.proofs.Choice.{pick_any, pick_le, pick_nle, pick_lt, pick_nlt}
+use lib.Dec.{leb, ltb}
+use Rattle.std.specs.Prelude.{Option, Some, None}
+use Rattle.steps.specs.Choice.{pick}
+use Rattle.steps.proofs.Choice.{never, pick_any, pick_le, pick_nle, pick_lt, pick_nlt}
 use Rattle.byte_numbers.specs.Bytes.{u32_at, bytes_of}
-use Rattle.new_stream.specs.Entries as entries
-use Rattle.new_stream.specs.Entries.{entry_item, entries_of}
-use Rattle.new_places.specs.declared.Fate.{Fate}
-use Rattle.new_places.specs.declared.Fate.TheVariants.{Stays, Goes, Table, Text, Sheet}
-use Rattle.new_places.specs.Parts.{fated, spot_of, item_of}
-use Rattle.new_places.specs.declared.Spot.{Spot}
-use Rattle.new_places.specs.declared.Step.{Step}
-use Rattle.new_places.specs.declared.Step.TheVariants.{Record}
-use Rattle.copied_records.specs.Copied.{size_for, Change}
-use Rattle.copied_records.proofs.Editing.{Keeps, Editing, editing_start, editing_room, editing_here, edit_laws}
-use Rattle.new_fields.specs.Edited.{text_change, sheet_change, Good, Roomy, place_for}
+use Rattle.new_stream.specs.declared.Fate.{Fate}
+use Rattle.new_stream.specs.declared.Fate.TheVariants.{Stays, Goes, Table, Text, Sheet}
+use Rattle.new_stream.specs.declared.Entry.{Entry}
+use Rattle.new_stream.specs.Entries.{size_for, entries_of}
+use Rattle.new_places.specs.Parts.{text_index}
+use Rattle.new_places.specs.Places.{place_for}
+use Rattle.copied_records.specs.Copied.{Change}
+use Rattle.copied_records.proofs.Editing.{Keeps, Editing, editing_start, editing_here, editing_room}
+use Rattle.new_fields.specs.Edited.{text_change, sheet_change, Good, Roomy}
 use Rattle.flags.specs.Flags.{set_below}
-use Rattle.new_fields.specs.Ranks.{rank_in}
+use Rattle.new_fields.specs.Ranks.{rank_in, index_among}
 
--- ---- one text cell
+-- ---- one index
 word_past : (j n : ℕ) → n ≤ j / 64 → n * 64 ≤ j
 word_past j n h = le_trans (mul-le-mul_right 64 h) (div-mul-le_self j 64)
 
@@ -33,112 +34,123 @@ word_here j n h = (div-lt_iff_lt-mul pos).0 h
     pos : 0 < 64
     pos = omega arith
 
-module _ (s flags : List ℕ) (start base p q i : ℕ) (o : List ℕ) where
-  abbrev Put : List ℕ → Type 0
-  Put o' = o' ≡ text_change s (rank_in flags start base) base (length flags * 64) p 0 entries.text o q
+module _ (index : ℕ → ℕ) (base m i : ℕ) where
+  pub among_before : i < base → None ≡ index_among index base m i
+  unfolding index_among
+  among_before h = pick_nle None _ _ base i h refl
 
-  module _ (j : ℕ) (is : j ≡ u32_at s (p + 10)) (same : i ≡ j) where
-    abbrev index_is : i ≡ u32_at s (p + 10)
-    index_is = same ∙ is
+  pub among_past : base + m ≤ i → None ≡ index_among index base m i
+  unfolding index_among
+  among_past h = pick_le None _ _ base i (omega arith) (pick_nlt None _ _ i (base + m) h refl)
 
-    pub index_before : i < base → Put o
-    index_before h = let e = index_is in pick_nle o _ _ base (u32_at s (p + 10)) (omega arith) refl
+  pub among_here : base ≤ i → i < base + m → Some (index i) ≡ index_among index base m i
+  unfolding index_among
+  among_here h k = pick_le (Some (index i)) _ _ base i h (pick_lt (Some (index i)) _ _ i (base + m) k refl)
 
-    pub index_past : base ≤ i → length flags ≤ (i - base) / 64 → Put o
-    index_past h k =
-        let e = index_is in
-        let m = word_past (i - base) (length flags) k in
-        pick_le o _ _ base (u32_at s (p + 10)) (omega arith) (pick_nlt o _ _ (u32_at s (p + 10)) (base + length flags * 64) (omega arith) refl)
+module _ (flags : List ℕ) (start base i j : ℕ) (h : base ≤ i) (e : j ≡ i - base) where
+  pub rank_past : length flags ≤ j / 64 → None ≡ index_among (rank_in flags start base) base (length flags * 64) i
+  rank_past k = let a = word_past j (length flags) k in among_past (rank_in flags start base) base (length flags * 64) i (omega arith)
 
-    pub index_here : (o' : List ℕ) (r : ℕ) → base ≤ i → (i - base) / 64 < length flags → r ≡ start + set_below flags (i - base) → o' ≡ sets o (q + 10) (bytes_of 4 r) → Put o'
-    unfolding rank_in
-    index_here o' r h k e f =
-        let x = index_is in
-        let m = word_here (i - base) (length flags) k in
-        pick_le o' _ _ base (u32_at s (p + 10)) (omega arith) (pick_lt o' _ _ (u32_at s (p + 10)) (base + length flags * 64) (omega arith)
-        (f ∙ ap (λ (n : ℕ). sets o (q + 10) (bytes_of 4 n)) (e ∙ ap (λ (n : ℕ). start + set_below flags (n - base)) x)))
+  pub rank_here : (r : ℕ) → j / 64 < length flags → r ≡ start + set_below flags j → Some r ≡ index_among (rank_in flags start base) base (length flags * 64) i
+  unfolding rank_in
+  rank_here r k g =
+      let a = word_here j (length flags) k in
+      ap Some (g ∙ ap (λ (y : ℕ). start + set_below flags y) e) ∙ among_here (rank_in flags start base) base (length flags * 64) i h (omega arith)
 
-pub ruleset index_laws = (index_before, index_past, index_here)
+-- ---- one text cell
+module _ (s : List ℕ) (index : ℕ → ℕ) (base m p z q : ℕ) (f : Fate) (o : List ℕ) {r : Option ℕ} (is : r ≡ text_index s p f) where
+  pub text_none : r ≡ None → o ≡ text_change s index base m p z f o q
+  text_none e = by f (sym is ∙ e)
+    where
+      by : (f : Fate) → text_index s p f ≡ None → o ≡ text_change s index base m p z f o q
+      by Stays e = refl
+      by Goes e = refl
+      by Table e = refl
+      by Text e = never (cc)
+      by Sheet e = refl
 
--- ---- one BOUNDSHEET
-pub position_here : (s : List ℕ) (n p q i j r k : ℕ) (o o' : List ℕ) → j ≡ u32_at s (p + 4) → i ≡ j → r ≡ place_for n (entries_of s) i → k ≡ r → o' ≡ sets o (q + 4) (bytes_of 4 k)
-    → o' ≡ sheet_change s (place_for n (entries_of s)) p 0 entries.sheet o q
-position_here s n p q i j r k o o' e f h g d =
-    d ∙ ap (λ (m : ℕ). sets o (q + 4) (bytes_of 4 m)) (g ∙ h ∙ ap (place_for n (entries_of s)) (f ∙ e))
+  put : Option ℕ → List ℕ
+  put None = o
+  put (Some k) = sets o (q + 10) (bytes_of 4 k)
 
-pub ruleset position_laws = (position_here)
+  put_pick : (a b : Bool) (k : ℕ) → put (pick a (pick b (Some k) None) None) ≡ pick a (pick b (sets o (q + 10) (bytes_of 4 k)) o) o
+  unfolding put pick
+  put_pick true true k = refl
+  put_pick true false k = refl
+  put_pick false b k = refl
+
+  put_at : (i : ℕ) → r ≡ Some i → put (index_among index base m i) ≡ text_change s index base m p z f o q
+  unfolding put index_among
+  put_at i e = by f (sym is ∙ e)
+    where
+      by : (f : Fate) → text_index s p f ≡ Some i → put (index_among index base m i) ≡ text_change s index base m p z f o q
+      by Stays e = never (cc)
+      by Goes e = never (cc)
+      by Table e = never (cc)
+      by Sheet e = never (cc)
+      by Text e = let j : i ≡ u32_at s (p + 10) = cc in ap (λ (v : ℕ). put (index_among index base m v)) j ∙ put_pick (leb base (u32_at s (p + 10))) (ltb (u32_at s (p + 10)) (base + m)) (index (u32_at s (p + 10)))
+
+  module _ (i : ℕ) (e : r ≡ Some i) {k : Option ℕ} (among : k ≡ index_among index base m i) where
+    pub index_none : k ≡ None → o ≡ text_change s index base m p z f o q
+    unfolding put
+    index_none g = ap put (sym g ∙ among) ∙ put_at i e
+
+    pub index_some : (n : ℕ) (o' : List ℕ) → k ≡ Some n → o' ≡ sets o (q + 10) (bytes_of 4 n) → o' ≡ text_change s index base m p z f o q
+    unfolding put
+    index_some n o' g h = h ∙ ap put (sym g ∙ among) ∙ put_at i e
 
 -- ---- the walks
 pub text_keeps : (s : List ℕ) (index : ℕ → ℕ) (base m : ℕ) → Keeps (text_change s index base m)
-text_keeps s index base m p z entries.stays o q = refl
-text_keeps s index base m p z entries.goes o q = refl
-text_keeps s index base m p z entries.table o q = refl
-text_keeps s index base m p z entries.text o q = pick_any (λ (y : List ℕ). length y ≡ length o) _ (pick_any (λ (y : List ℕ). length y ≡ length o) _ (length-sets o (q + 10) (bytes_of 4 (index (u32_at s (p + 10))))) refl) refl
-text_keeps s index base m p z entries.sheet o q = refl
+text_keeps s index base m p z Stays o q = refl
+text_keeps s index base m p z Goes o q = refl
+text_keeps s index base m p z Table o q = refl
+text_keeps s index base m p z Text o q = pick_any (λ (y : List ℕ). length y ≡ length o) _ (pick_any (λ (y : List ℕ). length y ≡ length o) _ (length-sets o (q + 10) (bytes_of 4 (index (u32_at s (p + 10))))) refl) refl
+text_keeps s index base m p z Sheet o q = refl
 
 sheet_keeps : (s : List ℕ) (place : ℕ → ℕ) → Keeps (sheet_change s place)
-sheet_keeps s place p z entries.stays o q = refl
-sheet_keeps s place p z entries.goes o q = refl
-sheet_keeps s place p z entries.table o q = refl
-sheet_keeps s place p z entries.text o q = refl
-sheet_keeps s place p z entries.sheet o q = length-sets o (q + 4) (bytes_of 4 (place (u32_at s (p + 4))))
+sheet_keeps s place p z Stays o q = refl
+sheet_keeps s place p z Goes o q = refl
+sheet_keeps s place p z Table o q = refl
+sheet_keeps s place p z Text o q = refl
+sheet_keeps s place p z Sheet o q = length-sets o (q + 4) (bytes_of 4 (place (u32_at s (p + 4))))
 
-pub roomy_start : (s : List ℕ) (f : Change) (n : ℕ) (o : List ℕ) → Keeps f → Roomy s n (length o) → Editing s (Good s) f n o (record { at = 0; level = 0; kind = 0; gone = false }) 0 o
-roomy_start s f n o k h = editing_start s (Good s) f n o k h.short h.table h.good h.room
+pub roomy_start : (s : List ℕ) (f : Change) (n : ℕ) (l : List Entry) (o : List ℕ) → l ≡ entries_of s → Keeps f → Roomy s n (length o) → Editing (Good s) f n (entries_of s) o l 0 o
+roomy_start s f n l o i k h = editing_start (Good s) f n l (entries_of s) o i k h.good h.room
 
-pub texts_start : (s flags : List ℕ) (start base n : ℕ) (o : List ℕ) → Roomy s n (length o)
-    → Editing s (Good s) (text_change s (rank_in flags start base) base (length flags * 64)) n o (record { at = 0; level = 0; kind = 0; gone = false }) 0 o
-texts_start s flags start base n o h = roomy_start s _ n o (text_keeps s (rank_in flags start base) base (length flags * 64)) h
+pub texts_start : (s flags : List ℕ) (start base n : ℕ) (l : List Entry) (o : List ℕ) → l ≡ entries_of s → Roomy s n (length o)
+    → Editing (Good s) (text_change s (rank_in flags start base) base (length flags * 64)) n (entries_of s) o l 0 o
+texts_start s flags start base n l o i h = roomy_start s _ n l o i (text_keeps s (rank_in flags start base) base (length flags * 64)) h
 
-pub sheets_start : (s : List ℕ) (n : ℕ) (o : List ℕ) → Roomy s n (length o)
-    → Editing s (Good s) (sheet_change s (place_for n (entries_of s))) n o (record { at = 0; level = 0; kind = 0; gone = false }) 0 o
-sheets_start s n o h = roomy_start s _ n o (sheet_keeps s (place_for n (entries_of s))) h
+pub sheets_start : (s : List ℕ) (n : ℕ) (l : List Entry) (o : List ℕ) → l ≡ entries_of s → Roomy s n (length o) → Editing (Good s) (sheet_change s (place_for n (entries_of s))) n (entries_of s) o l 0 o
+sheets_start s n l o i h = roomy_start s _ n l o i (sheet_keeps s (place_for n (entries_of s))) h
 
 -- room for what an entry gets
-module _ (s : List ℕ) (f : Change) (n : ℕ) (o₀ : List ℕ) (w : Spot) (q : ℕ) (o : List ℕ) (g : Editing s (Good s) f n o₀ w q o) (r : Step) (is : item_of s w r ≡ entry_item s (spot_of w)) (z : ℕ) (x : Fate) (v : Spot) (h : r ≡ Record z x v) where
-  place_room : q + size_for n z (fated x) ≤ length o
-  place_room = editing_room s (Good s) f n o₀ w q o g r is z x v h
+module _ {s : List ℕ} {f : Change} {n : ℕ} {all : List Entry} {o₀ : List ℕ} {l : List Entry} {q : ℕ} {o : List ℕ} (g : Editing (Good s) f n all o₀ l q o) (short : length s ≤ 16777216) (x : Entry) (l' : List Entry) (i : l ≡ x ∷ l') where
+  place_room : q + size_for n x.size x.fate ≤ length o
+  place_room = editing_room g x l' i
 
-  good_here : Good s (record { at = w.at; size = z; fate = fated x })
-  good_here = editing_here s (Good s) f n o₀ w q o g r is z x v h
+  good_here : Good s x
+  good_here = editing_here g x l' i
 
-  pub place_text : x ≡ Text → q + 14 ≤ length o
-  place_text e = let a = good_here.cell (ap fated e) in let b : q + z ≤ length o = rw e at place_room in omega arith
+  pub place_low : x.at < 4294967200
+  place_low = let a = good_here.lies in omega arith
 
-  pub place_sheet : x ≡ Sheet → q + 8 ≤ length o
-  place_sheet e = let a = good_here.sheet (ap fated e) in let b : q + z ≤ length o = rw e at place_room in omega arith
+  pub place_text : x.fate ≡ Text → q + 14 ≤ length o
+  place_text e = let a = good_here.cell e in let b : q + x.size ≤ length o = rw e at place_room in omega arith
 
-  pub place_table : x ≡ Table → q + n ≤ length o
+  pub place_sheet : x.fate ≡ Sheet → q + 8 ≤ length o
+  place_sheet e = let a = good_here.sheet e in let b : q + x.size ≤ length o = rw e at place_room in omega arith
+
+  pub place_table : x.fate ≡ Table → q + n ≤ length o
   place_table e = rw e at place_room
 
-pub ruleset place_laws = (edit_laws, place_text, place_sheet, place_table)
+pub ruleset rank_laws = (among_before, rank_past, rank_here)
 
--- an entry, by its fate
-module _ (s : List ℕ) (index : ℕ → ℕ) (base m p z q : ℕ) (o o' : List ℕ) (x : Fate) where
-  pub index_text : x ≡ Text → o' ≡ text_change s index base m p 0 entries.text o q → o' ≡ text_change s index base m p z (fated x) o q
-  index_text e h = rw e h
+pub ruleset index_laws = (text_none, index_none, index_some)
 
-module _ (s : List ℕ) (index : ℕ → ℕ) (base m p z q : ℕ) (o : List ℕ) (x : Fate) where
-  pub index_stays : x ≡ Stays → o ≡ text_change s index base m p z (fated x) o q
-  index_stays e = rw e refl
+pub ruleset place_laws = (place_low, place_text, place_sheet, place_table)
 
-  pub index_goes : x ≡ Goes → o ≡ text_change s index base m p z (fated x) o q
-  index_goes e = rw e refl
-
-  pub index_table : x ≡ Table → o ≡ text_change s index base m p z (fated x) o q
-  index_table e = rw e refl
-
-  pub index_sheet : x ≡ Sheet → o ≡ text_change s index base m p z (fated x) o q
-  index_sheet e = rw e refl
-
-module _ (s : List ℕ) (n p z q : ℕ) (o o' : List ℕ) (x : Fate) where
-  pub position_sheet : x ≡ Sheet → o' ≡ sheet_change s (place_for n (entries_of s)) p 0 entries.sheet o q → o' ≡ sheet_change s (place_for n (entries_of s)) p z (fated x) o q
-  position_sheet e h = rw e h
-
-pub room_text : (x : Fate) (q m : ℕ) → (x ≡ Text → q + 14 ≤ m) → x ≡ Text → q + 14 ≤ m
-room_text x q m h e = h e
-
-pub room_sheet : (x : Fate) (q m : ℕ) → (x ≡ Sheet → q + 8 ≤ m) → x ≡ Sheet → q + 8 ≤ m
-room_sheet x q m h e = h e
-
-pub ruleset entry_laws = (index_text, index_stays, index_goes, index_table, index_sheet, position_sheet, room_text, room_sheet)
+-- ---- one BOUNDSHEET
+module _ (s : List ℕ) (n p z q : ℕ) (f : Fate) (o : List ℕ) where
+  pub position_here : (i r : ℕ) (o' : List ℕ) → f ≡ Sheet → i ≡ u32_at s (p + 4) → r ≡ place_for n (entries_of s) i → o' ≡ sets o (q + 4) (bytes_of 4 r) → o' ≡ sheet_change s (place_for n (entries_of s)) p z f o q
+  position_here i r o' e d g h = rw e (h ∙ ap (λ (m : ℕ). sets o (q + 4) (bytes_of 4 m)) (g ∙ ap (place_for n (entries_of s)) d))

@@ -1,7 +1,7 @@
+pub mod Places
 pub mod Lists
 pub mod Held
 pub mod Whole
-pub mod Places
 pub mod Laws
 pub mod Indices
 pub mod Slots

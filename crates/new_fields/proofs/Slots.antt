@@ -4,32 +4,33 @@ use mathlib.Core.Path.{◌≡◌, refl, sym, ap, ◌∙◌, subst}
 use mathlib.Core.List.{List}
 use mathlib.Core.Bool.{Bool, true, false}
 use native.Mathlib.Omega.{arith}
-use lib.ListN.{length, get_or, set, length-set}
-use lib.Seq.{get_or-set_same, get_or-set_other}
-use lib.Dec.{eqb}
-use borrow.Author.Tests.{eqb-true, eqb-false}
+use lib.ListN.{length, get_or, set, take, length-set}
+use lib.Seq.{get_or-set_same, get_or-set_other, get_or-take, length-take-le}
+use lib.Dec.{leb, eqb}
+use Rattle.std.specs.List.Sorted.{IsPartitionedBy, IsPartitionPoint}
+use Rattle.std.proofs.lemmas.List.Sorted.{IsPartitionedBy-leb}
+use Rattle.std.proofs.lemmas.Grind.{get_or_default_zero}
+use borrow.Author.Tests.{eqb-true, eqb-false, leb-true, leb-false}
+use Rattle.std.specs.Prelude.{Option, Some}
 use Rattle.steps.specs.Choice.{pick}
 use Rattle.steps.specs.Items.{Item, onto}
 use Rattle.record.specs.declared.Header.{Header}
 use Rattle.record.specs.declared.Header.TheVariants as header
 use Rattle.record.specs.Record.{header_at}
-use Rattle.new_stream.specs.Entries as entries
-use Rattle.new_stream.specs.Entries.{Entry, fate_of, level_after, spot_after, record_item, rest_item, on_header, entry_item, entries_from, entries_of}
-use Rattle.new_stream.specs.Compact.{place_in}
+use Rattle.new_stream.specs.declared.Spot.{Spot}
+use Rattle.new_stream.specs.declared.Entry.{Entry}
+use Rattle.new_stream.specs.Entries.{size_for, fate_of, level_after, spot_after, record_item, rest_item, on_header, entry_item, entries_from, entries_of, top}
 use Rattle.new_stream.proofs.Entries.{entries_step}
-use Rattle.new_places.specs.declared.Spot.{Spot}
-use Rattle.new_places.specs.declared.Fate.{Fate}
 use Rattle.new_places.specs.declared.Step.{Step}
-use Rattle.new_places.specs.declared.Step.TheVariants.{Record}
-use Rattle.new_places.specs.Parts.{spot_of, item_of, size_of, Ready, Placed}
-use Rattle.new_places.proofs.Place.{Going, going_sum, going_next}
-use Rattle.new_places.proofs.Walking.{ahead_are}
-use Rattle.new_fields.specs.Edited.{place_for}
-use Rattle.new_fields.proofs.Places.{place_by}
-use Rattle.new_fields.specs.Slots.{top, Reached, Slots, Grown}
+use Rattle.new_places.specs.Parts.{item_of}
+use Rattle.new_places.specs.Places.{sizes, place_for}
+use Rattle.new_places.proofs.Walking.{left_some, step_ahead}
+use Rattle.new_places.proofs.Places.{sizes_more, place_more}
+use Rattle.new_places.proofs.Whole.{sizes_small}
+use Rattle.new_fields.specs.Slots.{Reached, Slots, Before, Grown}
 
 -- ---- where nothing is open, neither the kind nor what went before it matters
-abbrev bare_spot : ℕ → ℕ → Bool → entries.Spot
+abbrev bare_spot : ℕ → ℕ → Bool → Spot
 bare_spot at k g = record { at = at; level = 0; kind = k; gone = g }
 
 module _ (s : List ℕ) (at k : ℕ) (g : Bool) where
@@ -43,98 +44,112 @@ module _ (s : List ℕ) (at k : ℕ) (g : Bool) where
   bare_header header.Cut = refl
   bare_header header.End = refl
 
-bare : (s : List ℕ) (w : entries.Spot) → w.level ≡ 0 → entries_from s w ≡ entries_from s (bare_spot w.at 0 false)
+bare : (s : List ℕ) (w : Spot) → w.level ≡ 0 → entries_from s w ≡ entries_from s (bare_spot w.at 0 false)
 unfolding entry_item
 bare s w h =
     ap (entries_from s) (λ i. record { at = w.at; level = h i; kind = w.kind; gone = w.gone })
     ∙ entries_step s (bare_spot w.at w.kind w.gone)
-    ∙ ap (λ (x : Item entries.Spot Entry). onto x (λ v. entries_from s v)) (bare_header s w.at w.kind w.gone (header_at s w.at))
+    ∙ ap (λ (x : Item Spot Entry). onto x (λ v. entries_from s v)) (bare_header s w.at w.kind w.gone (header_at s w.at))
     ∙ sym (entries_step s (bare_spot w.at 0 false))
 
 -- ---- a spot that is reached
-pub reached_start : (s : List ℕ) (n : ℕ) → length s ≤ 16777216 → n ≤ 16777216 → Reached s n (top 0) 0
-reached_start s n a b = record { ready = record { short = a; table = b; within = omega arith; level = omega arith; place = omega arith }; same = λ p r h x. x }
+reached_start : (s : List ℕ) (n : ℕ) → Reached s n (top 0) 0
+reached_start s n = record { within = omega arith; sum = omega arith; same = λ p h. omega arith }
 
 module _ (s : List ℕ) (n : ℕ) (w : Spot) (q : ℕ) (g : Reached s n w q) where
   reached_bare : w.level ≡ 0 → Reached s n (top w.at) q
-  reached_bare z = record {
-    ready = let r = g.ready in record { short = r.short; table = r.table; within = r.within; level = omega arith; place = r.place };
-    same = λ p r h x. g.same p r h (λ T e. x T e ∙ ap (λ (l : List Entry). q + place_in T l p) (sym (bare s (spot_of w) z)));
-  }
+  reached_bare z =
+      let e = bare s w z in
+      record {
+        within = g.within;
+        sum = ap (λ (l : List Entry). q + sizes n l) (sym e) ∙ g.sum;
+        same = λ p h. g.same p h ∙ ap (λ (l : List Entry). q + place_for n l p) e;
+      }
 
-  going : (p : ℕ) → w.at ≤ p → Going s n p (top 0) 0 w q
-  going p h = record { ready = g.ready; same = λ r x. g.same p r h x }
-
-  module _ (r : Step) (is : item_of s w r ≡ entry_item s (spot_of w)) (z : ℕ) (f : Fate) (v : Spot) (h : r ≡ Record z f v) where
-    further : w.at < v.at
-    further = let a = ahead_are s w r is (Record z f v) h in omega arith
-
-    reached_less : length s - v.at < length s - w.at
-    reached_less = let a = ahead_are s w r is (Record z f v) h in omega arith
-
-    module _ (k : ℕ) (size : k ≡ size_of n z f) where
-      reached_sum : q + k < 18446744073709551616
-      reached_sum = let a = further in going_sum s n v.at (top 0) 0 w q (going v.at (omega arith)) r is a z f v h k size
-
-      reached_next : Reached s n v (q + k)
-      reached_next =
-          let a = further in
-          record {
-            ready = (going_next s n v.at (top 0) 0 w q (going v.at (omega arith)) r is a z f v h k size).ready;
-            same = λ p x b y. (going_next s n p (top 0) 0 w q (going p (omega arith)) r is (omega arith) z f v h k size).same x y;
-          }
+  module _ (r : Option Step) (is : item_of r ≡ entry_item s w) (x : Step) (h : r ≡ Some x) (k : ℕ) (size : k ≡ size_for n x.entry.size x.entry.fate) where
+    reached_next : Reached s n x.next (q + k)
+    reached_next =
+        let e = left_some s w r is x h in
+        let a = step_ahead s w r is x h in
+        let m = sizes_more n _ _ _ e in
+        let b = g.sum in
+        record {
+          within = a.3;
+          sum = omega arith;
+          same = λ p j. let c = g.same p (omega arith) in let d = place_more n _ _ _ e p (omega arith) in omega arith;
+        }
 
 -- ---- words
 abbrev Word : List ℕ → ℕ → ℕ → Type 0
 Word s n x = Reached s n (top (x / 4294967296)) (x % 4294967296)
 
+first_slot : (l : List ℕ) → 0 < length l → get_or (set l 0 0) 0 0 ≡ 0
+first_slot l h = get_or-set_same l 0 0 0 h
+
 slots_start : (s : List ℕ) (n : ℕ) (l : List ℕ) → length s ≤ 16777216 → n ≤ 16777216 → 0 < length l → get_or l 0 0 ≡ 0 → Slots s n 1 l
 slots_start s n l a b h e = record {
+  short = a;
+  table = b;
   some = omega arith;
   within = h;
   first = e;
-  reached = λ j i. let z : j ≡ 0 = omega arith in subst (Word s n) (sym (ap (λ (k : ℕ). get_or l k 0) z ∙ e)) (reached_start s n a b);
+  ascend = λ i j c d. let x : i ≡ j = omega arith in let y : get_or l i 0 ≡ get_or l j 0 = ap (λ (k : ℕ). get_or l k 0) x in omega arith;
+  reached = λ j i. let z : j ≡ 0 = omega arith in subst (Word s n) (sym (ap (λ (k : ℕ). get_or l k 0) z ∙ e)) (reached_start s n);
 }
-
-pub first_slot : (l : List ℕ) → 0 < length l → get_or (set l 0 0) 0 0 ≡ 0
-first_slot l h = get_or-set_same l 0 0 0 h
-
-pub first_long : (l : List ℕ) → 0 < length l → 0 < length (set l 0 0)
-first_long l h = let z = length-set l 0 0 in omega arith
-
-pub first_same : (l l' : List ℕ) → length l' ≡ length (set l 0 0) → length l' ≡ length l
-first_same l l' h = h ∙ length-set l 0 0
-
-pub ruleset first_laws = (first_slot, first_long, first_same)
 
 module _ (k : ℕ) (l : List ℕ) (x at q : ℕ) where
   pub grown_same : (w : Spot) → Grown k k w q l l
-  grown_same w = record { size = refl; slots = λ s n a b. a }
+  grown_same w = record { size = refl; slots = λ s n a b c. (a, b) }
 
   module _ (a : x / 4294967296 ≡ at) (b : x % 4294967296 ≡ q) (room : k < length l) where
-    slots_more : (s : List ℕ) (n : ℕ) → Slots s n k l → Reached s n (top at) q → Slots s n (k + 1) (set l k x)
-    slots_more s n g h = record {
-      some = omega arith;
-      within = let z = length-set l k x in omega arith;
-      first = get_or-set_other l k 0 x 0 (λ e. let z = g.some in omega arith) ∙ g.first;
-      reached = λ j i. by j i (eqb j k) refl;
-    }
-      where
-        new : Word s n x
-        new = subst (λ (y : ℕ). Reached s n (top y) (x % 4294967296)) (sym a) (subst (λ (y : ℕ). Reached s n (top at) y) (sym b) h)
+    module _ (s : List ℕ) (n : ℕ) (g : Slots s n k l) (before : Before k l at) (h : Reached s n (top at) q) where
+      new : Word s n x
+      new = subst (λ (y : ℕ). Reached s n (top y) (x % 4294967296)) (sym a) (subst (λ (y : ℕ). Reached s n (top at) y) (sym b) h)
 
-        by : (j : ℕ) → j < k + 1 → (c : Bool) → eqb j k ≡ c → Word s n (get_or (set l k x) j 0)
-        by j i true e = let z = eqb-true j k e in subst (Word s n) (sym (ap (λ (m : ℕ). get_or (set l k x) m 0) z ∙ get_or-set_same l k x 0 room)) new
-        by j i false e = let z = eqb-false j k e in subst (Word s n) (sym (get_or-set_other l k j x 0 z)) (g.reached j (low j i z))
-          where
-            low : (j : ℕ) → j < k + 1 → (j ≡ k → ⊥) → j < k
-            low j i z = omega arith
+      here : get_or (set l k x) k 0 ≡ x
+      here = get_or-set_same l k x 0 room
+
+      there : (j : ℕ) → j < k → get_or (set l k x) j 0 ≡ get_or l j 0
+      there j i = get_or-set_other l k j x 0 (λ e. omega arith)
+
+      by_place : (P : ℕ → Type 0) → P x → ((j : ℕ) → j < k → P (get_or l j 0)) → (j : ℕ) → j < k + 1 → P (get_or (set l k x) j 0)
+      by_place P p f j i = by (eqb j k) refl
+        where
+          by : (c : Bool) → eqb j k ≡ c → P (get_or (set l k x) j 0)
+          by true e = let z = eqb-true j k e in subst P (sym (ap (λ (m : ℕ). get_or (set l k x) m 0) z ∙ here)) p
+          by false e = let z = eqb-false j k e in let low : j < k = omega arith in subst P (sym (there j low)) (f j low)
+
+      new_before : Before (k + 1) (set l k x) at
+      new_before = by_place (λ (y : ℕ). y / 4294967296 ≤ at) (omega arith) before
+
+      new_ascend : (i j : ℕ) → i ≤ j → j < k + 1 → get_or (set l k x) i 0 / 4294967296 ≤ get_or (set l k x) j 0 / 4294967296
+      new_ascend i j c d = by (eqb j k) refl
+        where
+          by : (b : Bool) → eqb j k ≡ b → get_or (set l k x) i 0 / 4294967296 ≤ get_or (set l k x) j 0 / 4294967296
+          by true e = let z = eqb-true j k e in let m = ap (λ (m : ℕ). get_or (set l k x) m 0 / 4294967296) z in let o : get_or (set l k x) k 0 / 4294967296 ≡ x / 4294967296 = ap (λ (y : ℕ). y / 4294967296) here in let p = new_before i (omega arith) in omega arith
+          by false e =
+              let z = eqb-false j k e in
+              let m : get_or (set l k x) i 0 / 4294967296 ≡ get_or l i 0 / 4294967296 = ap (λ (y : ℕ). y / 4294967296) (there i (omega arith)) in
+              let o : get_or (set l k x) j 0 / 4294967296 ≡ get_or l j 0 / 4294967296 = ap (λ (y : ℕ). y / 4294967296) (there j (omega arith)) in
+              let p = g.ascend i j c (omega arith) in
+              omega arith
+
+      slots_more : Slots s n (k + 1) (set l k x)
+      slots_more = record {
+        short = g.short;
+        table = g.table;
+        some = omega arith;
+        within = let z = length-set l k x in omega arith;
+        first = there 0 g.some ∙ g.first;
+        ascend = new_ascend;
+        reached = by_place (Word s n) new g.reached;
+      }
 
     pub grown_more : Grown k (k + 1) (top at) q l (set l k x)
-    grown_more = record { size = length-set l k x; slots = slots_more }
+    grown_more = record { size = length-set l k x; slots = λ s n g c h. (slots_more s n g c h, new_before s n g c h) }
 
 pub grown_top : (k k' : ℕ) (w : Spot) (q : ℕ) (l l' : List ℕ) → w.level ≡ 0 → Grown k k' (top w.at) q l l' → Grown k k' w q l l'
-grown_top k k' w q l l' z g = record { size = g.size; slots = λ s n a b. g.slots s n a (reached_bare s n w q b z) }
+grown_top k k' w q l l' z g = record { size = g.size; slots = λ s n a b c. g.slots s n a b (reached_bare s n w q c z) }
 
 pub ruleset grown_laws = (grown_same, grown_more, grown_top)
 
@@ -142,98 +157,115 @@ pub ruleset grown_laws = (grown_same, grown_more, grown_top)
 pub record Filled (s : List ℕ) (n : ℕ) (l₀ : List ℕ) (w : Spot) (q k : ℕ) (l : List ℕ) : Type 0 where
   pub reached : Reached s n w q
   pub slots : Slots s n k l
+  pub before : Before k l w.at
   pub size : length l ≡ length l₀
+  pub level : w.level ≤ w.at
 
-pub filled_start : (s : List ℕ) (n : ℕ) (l : List ℕ) → length s ≤ 16777216 → n ≤ 16777216 → 0 < length l → get_or l 0 0 ≡ 0 → Filled s n l (top 0) 0 1 l
-filled_start s n l a b h e = record { reached = reached_start s n a b; slots = slots_start s n l a b h e; size = refl }
+pub filled_start : (s : List ℕ) (n : ℕ) (l₀ l : List ℕ) → l ≡ set l₀ 0 0 → length s ≤ 16777216 → n ≤ 16777216 → 0 < length l₀ → Filled s n l₀ (top 0) 0 1 l
+filled_start s n l₀ l is a b h =
+    let z = length-set l₀ 0 0 in
+    let y = ap length is in
+    let e : get_or l 0 0 ≡ 0 = ap (λ (m : List ℕ). get_or m 0 0) is ∙ first_slot l₀ h in
+    record {
+      reached = reached_start s n;
+      slots = slots_start s n l a b (omega arith) e;
+      before = λ j i. let x : j ≡ 0 = omega arith in let y : get_or l j 0 ≡ 0 = ap (λ (m : ℕ). get_or l m 0) x ∙ e in omega arith;
+      size = omega arith;
+      level = omega arith;
+    }
 
-module _ (s : List ℕ) (n : ℕ) (l₀ : List ℕ) (w : Spot) (q k : ℕ) (l : List ℕ) (g : Filled s n l₀ w q k l) where
-  pub filled_low : w.at < 4294967296
-  filled_low = let r = g.reached.ready in omega arith
-
+module _ {s : List ℕ} {n : ℕ} {l₀ : List ℕ} {w : Spot} {q k : ℕ} {l : List ℕ} (g : Filled s n l₀ w q k l) where
   pub filled_level : w.level < 9223372036854775808
-  filled_level = let r = g.reached.ready in omega arith
+  filled_level = let a = g.reached.within in let b = g.slots.short in let c = g.level in omega arith
 
-  module _ (k' : ℕ) (l' : List ℕ) (h : Grown k k' w q l l') where
-    pub filled_slots : Slots s n k' l'
-    filled_slots = h.slots s n g.slots g.reached
+  pub filled_length : length l ≡ length l₀
+  filled_length = g.size
 
-    pub filled_length : length l' ≡ length l₀
-    filled_length = h.size ∙ g.size
+  pub filled_slots : Slots s n k l
+  filled_slots = g.slots
 
-  module _ (r : Step) (is : item_of s w r ≡ entry_item s (spot_of w)) (z : ℕ) (f : Fate) (v : Spot) (e : r ≡ Record z f v) where
-    pub filled_less : length s - v.at < length s - w.at
-    filled_less = reached_less s n w q g.reached r is z f v e
+  module _ {r : Option Step} (is : item_of r ≡ entry_item s w) (x : Step) (h : r ≡ Some x) where
+    pub filled_low : x.next.at < 4294967296
+    filled_low = let a = step_ahead s w r is x h in let b = g.slots.short in omega arith
 
-    module _ (m : ℕ) (size : m ≡ size_of n z f) where
-      pub filled_sum : q + m < 18446744073709551616
-      filled_sum = reached_sum s n w q g.reached r is z f v e m size
+    pub filled_less : length s - x.next.at < length s - w.at
+    filled_less = let a = step_ahead s w r is x h in omega arith
 
-      pub filled_next : (k' : ℕ) (l' : List ℕ) → Grown k k' w q l l' → Filled s n l₀ v (q + m) k' l'
-      filled_next k' l' h = record { reached = reached_next s n w q g.reached r is z f v e m size; slots = filled_slots k' l' h; size = filled_length k' l' h }
+    pub filled_sum : q + size_for n x.entry.size x.entry.fate < 18446744073709551616
+    filled_sum =
+        let e = sizes_more n _ _ _ (left_some s w r is x h) in
+        let a = g.reached.sum in
+        let b = sizes_small s n g.slots.table (top 0) in
+        let c = g.slots.short in
+        omega arith
 
-pub ruleset fill_laws = (filled_start, filled_low, filled_level, filled_slots, filled_length, filled_less, filled_sum, filled_next)
+    pub filled_next : (m k' : ℕ) (l' : List ℕ) → m ≡ size_for n x.entry.size x.entry.fate → Grown k k' x.next (q + m) l l' → Filled s n l₀ x.next (q + m) k' l'
+    filled_next m k' l' size gr =
+        let a = step_ahead s w r is x h in
+        let c = g.level in
+        let next = reached_next s n w q g.reached r is x h m size in
+        let both = gr.slots s n g.slots (λ j i. let b = g.before j i in omega arith) next in
+        record { reached = next; slots = both.0; before = both.1; size = gr.size ∙ g.size; level = omega arith }
+
+pub ruleset fill_laws = (filled_level, filled_length, filled_slots, filled_low, filled_less, filled_sum)
 
 -- ---- found again
-pub record Seeking (l : List ℕ) (count p low high : ℕ) : Type 0 where
-  pub long : count ≤ length l
-  pub below : high ≤ count
-  pub apart : low < high
-  pub before : get_or l low 0 / 4294967296 ≤ p
+module _ (s : List ℕ) (n : ℕ) (l : List ℕ) (p after : ℕ) (g : Slots s n (length l) l) (bound : after ≤ length l) (point : IsPartitionPoint (λ y. leb (y / 4294967296) p ≡ true) (λ y. leb (y / 4294967296) p ≡ false) l after) where
+  pub found_some : 1 ≤ after
+  found_some = by (eqb after 0) refl
+    where
+      by : (b : Bool) → eqb after 0 ≡ b → 1 ≤ after
+      by true e =
+          let z = eqb-true after 0 e in
+          let a : leb (get_or l 0 0 / 4294967296) p ≡ false = point.1 0 0 (omega arith) g.some in
+          let b = leb-false (get_or l 0 0 / 4294967296) p a in
+          let c = g.first in
+          absurd (omega arith)
+      by false e = let z = eqb-false after 0 e in omega arith
 
-pub seek_start : (l : List ℕ) (count p : ℕ) → 0 < count → count ≤ length l → get_or l 0 0 ≡ 0 → Seeking l count p 0 count
-seek_start l count p a b e = record { long = b; below = omega arith; apart = a; before = subst (λ (x : ℕ). x / 4294967296 ≤ p) (sym e) (omega arith) }
+  found_before : get_or l (after - 1) 0 / 4294967296 ≤ p
+  found_before = let a = found_some in leb-true (get_or l (after - 1) 0 / 4294967296) p (point.0 (after - 1) 0 (omega arith) (omega arith))
 
-module _ (l : List ℕ) (count p low high : ℕ) (g : Seeking l count p low high) where
-  pub seek_apart : low ≤ high
-  seek_apart = let a = g.apart in omega arith
+  -- the word that is read, and the entries from there
+  module _ (x : ℕ) (is : x ≡ get_or l (after - 1) 0) (k : List Entry) (from : k ≡ entries_from s (top (x / 4294967296))) where
+    reached_here : Reached s n (top (x / 4294967296)) (x % 4294967296)
+    reached_here = let a = found_some in subst (λ (y : ℕ). Reached s n (top (y / 4294967296)) (y % 4294967296)) (sym is) (g.reached (after - 1) (omega arith))
 
-  pub seek_found : low < count
-  seek_found = let a = g.apart in let b = g.below in omega arith
+    pub found_within : x / 4294967296 ≤ length s
+    found_within = reached_here.within
 
-  pub seek_before : get_or l low 0 / 4294967296 ≤ p
-  seek_before = g.before
+    pub found_sum : x % 4294967296 + sizes n k < 18446744073709551616
+    found_sum =
+        let a = reached_here.sum in
+        let b = sizes_small s n g.table (top 0) in
+        let c = g.short in
+        let d = ap (sizes n) from in
+        omega arith
 
-  module _ (more : 1 < high - low) where
-    pub seek_read : low + (high - low) / 2 < length l
-    seek_read = let a = g.long in let b = g.below in omega arith
+    pub found_place : (r : ℕ) → r ≡ x % 4294967296 + place_for n k p → r ≡ place_for n (entries_of s) p
+    found_place r h =
+        let a : x / 4294967296 ≤ p = subst (λ (y : ℕ). y / 4294967296 ≤ p) (sym is) found_before in
+        h ∙ ap (λ (m : List Entry). x % 4294967296 + place_for n m p) from ∙ sym (reached_here.same p a)
 
-    pub seek_up : (x : ℕ) → x ≡ get_or l (low + (high - low) / 2) 0 / 4294967296 → x ≤ p → Seeking l count p (low + (high - low) / 2) high
-    seek_up x e h = record { long = g.long; below = g.below; apart = omega arith; before = subst (λ (y : ℕ). y ≤ p) e h }
+pub slots_ascend : {s : List ℕ} {n : ℕ} (l : List ℕ) (p : ℕ) → Slots s n (length l) l → IsPartitionedBy (λ y. leb (y / 4294967296) p) l
+slots_ascend l p g =
+    IsPartitionedBy-leb (λ y. y / 4294967296) l p (λ i j d c e.
+    let a = get_or_default_zero l i d (omega arith) in
+    let b = get_or_default_zero l j d e in
+    let h = g.ascend i j c e in
+    omega arith)
 
-    pub seek_down : Seeking l count p low (low + (high - low) / 2)
-    seek_down = record { long = g.long; below = let b = g.below in omega arith; apart = omega arith; before = g.before }
-
-    pub seek_less_up : high - (low + (high - low) / 2) < high - low
-    seek_less_up = omega arith
-
-    pub seek_less_down : low + (high - low) / 2 - low < high - low
-    seek_less_down = omega arith
-
-pub ruleset seek_laws = (seek_start, seek_apart, seek_found, seek_before, seek_read, seek_up, seek_down, seek_less_up, seek_less_down)
-
-module _ (s : List ℕ) (n k : ℕ) (l : List ℕ) (g : Slots s n k l) where
-  pub slots_some : 0 < k
-  slots_some = g.some
-
-  pub slots_within : k ≤ length l
-  slots_within = g.within
-
-  pub slots_first : get_or l 0 0 ≡ 0
-  slots_first = g.first
-
-  module _ (j : ℕ) (h : j < k) where
-    pub slots_read : j < length l
-    slots_read = let a = g.within in omega arith
-
-    module _ (x y : ℕ) (a : x ≡ get_or l j 0 / 4294967296) (b : y ≡ get_or l j 0 % 4294967296) where
-      here : Reached s n (top x) y
-      here = subst (λ (i : ℕ). Reached s n (top i) y) (sym a) (subst (λ (i : ℕ). Reached s n (top (get_or l j 0 / 4294967296)) i) (sym b) (g.reached j h))
-
-      pub slots_ready : Ready s (top x) y n
-      slots_ready = here.ready
-
-      pub slots_placed : (p r : ℕ) → get_or l j 0 / 4294967296 ≤ p → Placed s (top x) y n p r → r ≡ place_for n (entries_of s) p
-      slots_placed p r c d = place_by s n p r (here.same p r (subst (λ (i : ℕ). i ≤ p) (sym a) c) d)
-
-pub ruleset found_laws = (slots_some, slots_within, slots_first, slots_read, slots_ready, slots_placed)
+-- ---- the first k words alone
+pub slots_part : {s : List ℕ} {n : ℕ} (k : ℕ) (l : List ℕ) → Slots s n k l → Slots s n (length (take k l)) (take k l)
+slots_part {s} {n} k l g =
+    let z = length-take-le k l g.within in
+    let same : (j : ℕ) → j < k → get_or (take k l) j 0 ≡ get_or l j 0 = λ j h. get_or-take k l j 0 h in
+    record {
+      short = g.short;
+      table = g.table;
+      some = let a = g.some in omega arith;
+      within = omega arith;
+      first = same 0 g.some ∙ g.first;
+      ascend = λ i j c d. let x = same i (omega arith) in let y = same j (omega arith) in let h = g.ascend i j c (omega arith) in omega arith;
+      reached = λ j h. subst (Word s n) (sym (same j (omega arith))) (g.reached j (omega arith));
+    }

@@ -14,10 +14,12 @@ use Rattle.byte_numbers.specs.Bytes.{byte_at, num_at, u32_at, bytes_at, bytes_of
 use Rattle.byte_numbers.proofs.Laws.{length_bytes, num_same}
 use Rattle.reading.specs.Claims.{Every}
 use Rattle.globals.specs.declared.Globals.{Globals}
-use Rattle.workbook.specs.declared.Checked.TheVariants.{Right}
-use Rattle.workbook.specs.Check.{checked_of}
+use Rattle.workbook.specs.Check.{Right, checked_of}
 use Rattle.moved_records.proofs.Views.{num_drop}
-use Rattle.new_stream.specs.Entries.{Fate, stays, goes, table, text, sheet, Entry, start, entries_of}
+use Rattle.new_stream.specs.declared.Fate.{Fate}
+use Rattle.new_stream.specs.declared.Entry.{Entry}
+use Rattle.new_stream.specs.declared.Fate.TheVariants.{Stays, Goes, Table, Text, Sheet}
+use Rattle.new_stream.specs.Entries.{size_for, start, entries_of}
 use Rattle.new_stream.specs.Compact.{new_bytes, written, place_in, index_in, compact_with}
 use Rattle.new_stream.specs.Parts.{Given, given_of}
 use Rattle.new_stream.proofs.Echoed.{Echoes, none, rest, gone, part, kept, label, bound, tabled}
@@ -25,16 +27,17 @@ use Rattle.new_stream.specs.Claims.{TableOf}
 use Rattle.new_stream.proofs.Written.{new_size_lem}
 use Rattle.new_stream.proofs.Places.{entries_lie, index_none}
 use Rattle.new_stream.proofs.Check.{echoed}
-use Rattle.copied_records.specs.Copied.{size_for, sizes, Change, edited, copied_entry}
+use Rattle.new_places.specs.Places.{sizes}
+use Rattle.new_places.proofs.Whole.{size_is}
+use Rattle.copied_records.specs.Copied.{Change, edited, copied_entry}
 use Rattle.new_fields.specs.Edited.{table_change, text_change, sheet_change, Good}
-use Rattle.new_fields.proofs.Places.{size_is}
 use Rattle.new_fields.proofs.Lists.{sets_inside, sets_whole, put_back}
 use Rattle.new_fields.proofs.Held as held
 use Rattle.new_fields.proofs.Held.{Held, Changes, edited_held, Any, any_held}
 
 pub record Sized (x : Entry) : Type 0 where
-  pub cell : x.fate ≡ text → 14 ≤ x.size
-  pub sheet : x.fate ≡ sheet → 8 ≤ x.size
+  pub cell : x.fate ≡ Text → 14 ≤ x.size
+  pub sheet : x.fate ≡ Sheet → 8 ≤ x.size
 
 -- from the entries of the new stream, which stand beside those of the old one
 bytes_below : (t : List ℕ) (q n : ℕ) → length (bytes_at t q n) ≤ n
@@ -83,11 +86,11 @@ module _ (s T : List ℕ) where
   place = place_in T (entries_of s)
 
   abbrev Parts : (List ℕ → Type 0) → (ℕ → ℕ → List ℕ) → (ℕ → ℕ → List ℕ) → ℕ → ℕ → Fate → List ℕ → Type 0
-  Parts tab tex she p z stays b = b ≡ bytes_at s p z
-  Parts tab tex she p z goes b = b ≡ []
-  Parts tab tex she p z table b = tab b
-  Parts tab tex she p z text b = b ≡ tex p z
-  Parts tab tex she p z sheet b = b ≡ she p z
+  Parts tab tex she p z Stays b = b ≡ bytes_at s p z
+  Parts tab tex she p z Goes b = b ≡ []
+  Parts tab tex she p z Table b = tab b
+  Parts tab tex she p z Text b = b ≡ tex p z
+  Parts tab tex she p z Sheet b = b ≡ she p z
 
   pub record State (tab : List ℕ → Type 0) (tex she : ℕ → ℕ → List ℕ) (x : Entry) (b : List ℕ) : Type 0 where
     pub good : Good s x
@@ -114,7 +117,7 @@ module _ (s T : List ℕ) where
   entry p z f = record { at = p; size = z; fate = f }
 
   bytes_size : (p z : ℕ) → p + z ≤ length s → length (bytes_at s p z) ≡ z
-  bytes_size p z h = new_size_lem s T index place p z h stays
+  bytes_size p z h = new_size_lem s T index place p z h Stays
 
   -- an entry that a change leaves alone
   unchanged : {f : Change} {R : Entry → List ℕ → Type 0} {x : Entry} {b : List ℕ} → length b ≡ size_for n x.size x.fate → R x b → ((o : List ℕ) (q : ℕ) → f x.at x.size x.fate o q ≡ o) → Changes f n R x b
@@ -122,23 +125,23 @@ module _ (s T : List ℕ) where
 
   -- copied
   step_copy : (p z : ℕ) (f : Fate) (b : List ℕ) → Good s (entry p z f) → length b ≡ size_for n z f → Changes (copied_entry s) n (State Free (bytes_at s) (bytes_at s)) (entry p z f) b
-  step_copy p z stays b g e = let y = bytes_size p z g.lies in record { size = e; new = bytes_at s p z; same = y ∙ sym e; holds = record { good = g; size = y; holds = refl }; is = λ pre post. sets_whole (bytes_at s p z) pre b post (y ∙ sym e) }
-  step_copy p z goes b g e = record { size = e; new = b; same = refl; holds = record { good = g; size = e; holds = empty b e }; is = λ pre post. refl }
+  step_copy p z Stays b g e = let y = bytes_size p z g.lies in record { size = e; new = bytes_at s p z; same = y ∙ sym e; holds = record { good = g; size = y; holds = refl }; is = λ pre post. sets_whole (bytes_at s p z) pre b post (y ∙ sym e) }
+  step_copy p z Goes b g e = record { size = e; new = b; same = refl; holds = record { good = g; size = e; holds = empty b e }; is = λ pre post. refl }
     where
       empty : (b : List ℕ) → length b ≡ 0 → b ≡ []
       empty [] e = refl
       empty (x ∷ b) e = absurd (omega arith)
-  step_copy p z table b g e = record { size = e; new = b; same = refl; holds = record { good = g; size = e; holds = e }; is = λ pre post. refl }
-  step_copy p z text b g e = let y = bytes_size p z g.lies in record { size = e; new = bytes_at s p z; same = y ∙ sym e; holds = record { good = g; size = y; holds = refl }; is = λ pre post. sets_whole (bytes_at s p z) pre b post (y ∙ sym e) }
-  step_copy p z sheet b g e = let y = bytes_size p z g.lies in record { size = e; new = bytes_at s p z; same = y ∙ sym e; holds = record { good = g; size = y; holds = refl }; is = λ pre post. sets_whole (bytes_at s p z) pre b post (y ∙ sym e) }
+  step_copy p z Table b g e = record { size = e; new = b; same = refl; holds = record { good = g; size = e; holds = e }; is = λ pre post. refl }
+  step_copy p z Text b g e = let y = bytes_size p z g.lies in record { size = e; new = bytes_at s p z; same = y ∙ sym e; holds = record { good = g; size = y; holds = refl }; is = λ pre post. sets_whole (bytes_at s p z) pre b post (y ∙ sym e) }
+  step_copy p z Sheet b g e = let y = bytes_size p z g.lies in record { size = e; new = bytes_at s p z; same = y ∙ sym e; holds = record { good = g; size = y; holds = refl }; is = λ pre post. sets_whole (bytes_at s p z) pre b post (y ∙ sym e) }
 
   -- the table
   step_table : (p z : ℕ) (f : Fate) (b : List ℕ) → State Free (bytes_at s) (bytes_at s) (entry p z f) b → Changes (table_change T) n (State IsT (bytes_at s) (bytes_at s)) (entry p z f) b
-  step_table p z stays b r = unchanged r.size record { good = r.good; size = r.size; holds = r.holds } (λ o q. refl)
-  step_table p z goes b r = unchanged r.size record { good = r.good; size = r.size; holds = r.holds } (λ o q. refl)
-  step_table p z table b r = record { size = r.size; new = T; same = sym r.size; holds = record { good = r.good; size = refl; holds = refl }; is = λ pre post. sets_whole T pre b post (sym r.size) }
-  step_table p z text b r = unchanged r.size record { good = r.good; size = r.size; holds = r.holds } (λ o q. refl)
-  step_table p z sheet b r = unchanged r.size record { good = r.good; size = r.size; holds = r.holds } (λ o q. refl)
+  step_table p z Stays b r = unchanged r.size record { good = r.good; size = r.size; holds = r.holds } (λ o q. refl)
+  step_table p z Goes b r = unchanged r.size record { good = r.good; size = r.size; holds = r.holds } (λ o q. refl)
+  step_table p z Table b r = record { size = r.size; new = T; same = sym r.size; holds = record { good = r.good; size = refl; holds = refl }; is = λ pre post. sets_whole T pre b post (sym r.size) }
+  step_table p z Text b r = unchanged r.size record { good = r.good; size = r.size; holds = r.holds } (λ o q. refl)
+  step_table p z Sheet b r = unchanged r.size record { good = r.good; size = r.size; holds = r.holds } (λ o q. refl)
 
   -- the text cells of a chunk
   module _ (base m : ℕ) where
@@ -148,11 +151,11 @@ module _ (s T : List ℕ) where
     abbrev Then : Entry → List ℕ → Type 0
     Then x b = State IsT (text_to (base + m)) (bytes_at s) x b
 
-    module _ (p z : ℕ) (b : List ℕ) (r : Before (entry p z text) b) where
+    module _ (p z : ℕ) (b : List ℕ) (r : Before (entry p z Text) b) where
       abbrev i : ℕ
       i = u32_at s (p + 10)
 
-      step_below : i < base → Changes (text_change s index base m) n Then (entry p z text) b
+      step_below : i < base → Changes (text_change s index base m) n Then (entry p z Text) b
       step_below h = record {
         size = r.size;
         new = b;
@@ -161,7 +164,7 @@ module _ (s T : List ℕ) where
         is = λ pre post. sym (pick_nle _ _ _ base i h refl);
       }
 
-      step_past : base + m ≤ i → Changes (text_change s index base m) n Then (entry p z text) b
+      step_past : base + m ≤ i → Changes (text_change s index base m) n Then (entry p z Text) b
       step_past h = record {
         size = r.size;
         new = b;
@@ -170,7 +173,7 @@ module _ (s T : List ℕ) where
         is = λ pre post. sym (pick_le _ _ _ base i (omega arith) (pick_nlt _ _ _ i (base + m) h refl));
       }
 
-      step_here : base ≤ i → i < base + m → Changes (text_change s index base m) n Then (entry p z text) b
+      step_here : base ≤ i → i < base + m → Changes (text_change s index base m) n Then (entry p z Text) b
       step_here h k =
           let old : b ≡ bytes_at s p z = r.holds ∙ sym (pick_nlt (bytes_at s p z) _ _ i base h refl) in
           let l = length_bytes 4 (index i) in
@@ -184,28 +187,28 @@ module _ (s T : List ℕ) where
             is = λ pre post. sym (pick_le _ _ _ base i h (pick_lt _ _ _ i (base + m) k refl)) ∙ sets_inside (bytes_of 4 (index i)) pre b post 10 (omega arith) ∙ ap (λ (x : List ℕ). pre ++ (sets x 10 (bytes_of 4 (index i)) ++ post)) old;
           }
 
-      step_label : Changes (text_change s index base m) n Then (entry p z text) b
+      step_label : Changes (text_change s index base m) n Then (entry p z Text) b
       step_label = by (leb base i) refl (ltb i (base + m)) refl
         where
-          by : (x : Bool) → leb base i ≡ x → (y : Bool) → ltb i (base + m) ≡ y → Changes (text_change s index base m) n Then (entry p z text) b
+          by : (x : Bool) → leb base i ≡ x → (y : Bool) → ltb i (base + m) ≡ y → Changes (text_change s index base m) n Then (entry p z Text) b
           by false h y k = step_below (leb-false base i h)
           by true h false k = step_past (ltb-false i (base + m) k)
           by true h true k = step_here (leb-true base i h) (ltb-true i (base + m) k)
 
     step_texts : (p z : ℕ) (f : Fate) (b : List ℕ) → Before (entry p z f) b → Changes (text_change s index base m) n Then (entry p z f) b
-    step_texts p z stays b r = unchanged r.size record { good = r.good; size = r.size; holds = r.holds } (λ o q. refl)
-    step_texts p z goes b r = unchanged r.size record { good = r.good; size = r.size; holds = r.holds } (λ o q. refl)
-    step_texts p z table b r = unchanged r.size record { good = r.good; size = r.size; holds = r.holds } (λ o q. refl)
-    step_texts p z text b r = step_label p z b r
-    step_texts p z sheet b r = unchanged r.size record { good = r.good; size = r.size; holds = r.holds } (λ o q. refl)
+    step_texts p z Stays b r = unchanged r.size record { good = r.good; size = r.size; holds = r.holds } (λ o q. refl)
+    step_texts p z Goes b r = unchanged r.size record { good = r.good; size = r.size; holds = r.holds } (λ o q. refl)
+    step_texts p z Table b r = unchanged r.size record { good = r.good; size = r.size; holds = r.holds } (λ o q. refl)
+    step_texts p z Text b r = step_label p z b r
+    step_texts p z Sheet b r = unchanged r.size record { good = r.good; size = r.size; holds = r.holds } (λ o q. refl)
 
   -- the BOUNDSHEETs
   step_sheets : (tex : ℕ → ℕ → List ℕ) (p z : ℕ) (f : Fate) (b : List ℕ) → State IsT tex (bytes_at s) (entry p z f) b → Changes (sheet_change s place) n (State IsT tex new_sheet) (entry p z f) b
-  step_sheets tex p z stays b r = unchanged r.size record { good = r.good; size = r.size; holds = r.holds } (λ o q. refl)
-  step_sheets tex p z goes b r = unchanged r.size record { good = r.good; size = r.size; holds = r.holds } (λ o q. refl)
-  step_sheets tex p z table b r = unchanged r.size record { good = r.good; size = r.size; holds = r.holds } (λ o q. refl)
-  step_sheets tex p z text b r = unchanged r.size record { good = r.good; size = r.size; holds = r.holds } (λ o q. refl)
-  step_sheets tex p z sheet b r =
+  step_sheets tex p z Stays b r = unchanged r.size record { good = r.good; size = r.size; holds = r.holds } (λ o q. refl)
+  step_sheets tex p z Goes b r = unchanged r.size record { good = r.good; size = r.size; holds = r.holds } (λ o q. refl)
+  step_sheets tex p z Table b r = unchanged r.size record { good = r.good; size = r.size; holds = r.holds } (λ o q. refl)
+  step_sheets tex p z Text b r = unchanged r.size record { good = r.good; size = r.size; holds = r.holds } (λ o q. refl)
+  step_sheets tex p z Sheet b r =
       let old : b ≡ bytes_at s p z = r.holds in
       let v = bytes_of 4 (place (u32_at s (p + 4))) in
       let l = length_bytes 4 (place (u32_at s (p + 4))) in
@@ -262,14 +265,14 @@ module _ (s T : List ℕ) where
 
   -- ---- the end: every text cell has its new index
   pub record Told (tex : ℕ → ℕ → List ℕ) (x : Entry) : Type 0 where
-    pub told : x.fate ≡ text → tex x.at x.size ≡ new_text x.at x.size
+    pub told : x.fate ≡ Text → tex x.at x.size ≡ new_text x.at x.size
 
   part_new : (tex : ℕ → ℕ → List ℕ) (p z : ℕ) (f : Fate) (b : List ℕ) → Told tex (entry p z f) → State IsT tex new_sheet (entry p z f) b → b ≡ new_bytes s T index place p z f
-  part_new tex p z stays b t r = r.holds
-  part_new tex p z goes b t r = r.holds
-  part_new tex p z table b t r = r.holds
-  part_new tex p z text b t r = r.holds ∙ t.told refl
-  part_new tex p z sheet b t r = r.holds
+  part_new tex p z Stays b t r = r.holds
+  part_new tex p z Goes b t r = r.holds
+  part_new tex p z Table b t r = r.holds
+  part_new tex p z Text b t r = r.holds ∙ t.told refl
+  part_new tex p z Sheet b t r = r.holds
 
   held_new : (tex : ℕ → ℕ → List ℕ) {l : List Entry} {c : List ℕ} → Held (State IsT tex new_sheet) l c → Every (Told tex) l → c ≡ written s T index place l
   unfolding written
@@ -281,7 +284,7 @@ module _ (s T : List ℕ) where
   stage_done tex post o g t = g.is ∙ ap (λ (y : List ℕ). y ++ post) (held_new tex g.holds t)
 
   -- where every index is below `top`
-  pub told_below : (top : ℕ) (l : List Entry) → Every (λ (x : Entry). x.fate ≡ text → u32_at s (x.at + 10) < top) l → Every (Told (text_to top)) l
+  pub told_below : (top : ℕ) (l : List Entry) → Every (λ (x : Entry). x.fate ≡ Text → u32_at s (x.at + 10) < top) l → Every (Told (text_to top)) l
   told_below top [] h = tt
   told_below top (x ∷ l) h = (record { told = λ e. sym (pick_lt (new_text x.at x.size) _ _ (u32_at s (x.at + 10)) top (h.0 e) refl) }, told_below top l h.1)
 

@@ -2,176 +2,100 @@
 // and new positions of BOUNDSHEETs.
 #![tactic(auto)]
 
-ghost use Rattle.std.specs.Prelude.{◌≡◌, ◌+◌, ◌*◌, ◌/◌, ◌%◌, ◌≤◌, ◌<◌, [], ◌∷◌, length, get_or};
-ghost use Rattle.new_places.specs.Parts.{fated};
-ghost use Rattle.new_stream.specs.Entries.{entries_of};
-ghost use Rattle.new_stream.specs.Compact.{on_text, texts_in, used_below};
+ghost use Rattle.std.specs.Prelude.{◌≡◌, ◌+◌, ◌*◌, ◌/◌, ◌%◌, ◌≤◌, ◌<◌, length};
+ghost use Rattle.new_stream.specs.declared.Fate.TheVariants.{Text, Sheet};
+ghost use Rattle.new_stream.specs.Entries.{entries_of, top};
+ghost use Rattle.new_stream.specs.Compact.{texts_in, used_below};
+ghost use Rattle.new_places.specs.Places.{place_for};
 ghost use Rattle.copied_records.specs.Copied.{edited};
 ghost use Rattle.flags.specs.Parts.{Ranked};
-ghost use Rattle.new_fields.specs.Edited.{text_change, sheet_change, Roomy, place_for};
-ghost use Rattle.new_fields.specs.Ranks.{rank_in};
+ghost use Rattle.new_fields.specs.Edited.{text_change, sheet_change, Roomy};
+ghost use Rattle.new_fields.specs.Ranks.{rank_in, index_among};
 ghost use Rattle.new_fields.specs.Runs.{top_in, reindexed, Reindexed};
-ghost use Rattle.new_fields.specs.Slots.{top, Slots, Grown};
+ghost use Rattle.new_fields.specs.Slots.{Slots, Grown};
 
-use new_places::{Fate, Spot, Step};
+use new_places::{Entries, Step};
+use new_stream::{Entry, Fate, Spot};
 
-// The new index of the text cell at p, which stands at q of the buffer, if its old one is among those that have a flag here.
-fn put_index(
-    s: &[u8],
-    p: usize,
+// The strings from `base` on that have a flag: set where one is used, how many used ones stand before each word of flags, and the new index of the first.
+#[derive(Clone, Copy)]
+struct Chunk<'a> {
     base: usize,
     start: u64,
-    flags: &[u64],
-    ranks: &[u64],
-    out: &mut [u8],
-    q: usize,
-)
-    requires { (p < 4294967200) × (q + 14 ≤ length out.old) × Ranked start flags.now ranks.now × (start ≤ 4294967296) × (length flags.now ≤ 65536) }
-    ensures { out.new ≡ text_change s.now (rank_in flags.now start base) base (length flags.now * 64) p 0 (fated Fate.Text) out.old q }
+    flags: &'a [u64],
+    ranks: &'a [u64],
+    ghost ranked: { Ranked start flags.now ranks.now },
+    ghost low: { start ≤ 4294967296 },
+    ghost few: { length flags.now ≤ 65536 },
+}
+
+impl Chunk<'_> {
+    // The new index of a string, if it is one of these.
+    #[tactic(auto, using(crate::proofs::Laws::rank_laws))]
+    fn new_index(self, old: usize) -> Option<u64>
+        ensures { result ≡ index_among (rank_in self.entry.flags.now self.entry.start self.entry.base) self.entry.base (length self.entry.flags.now * 64) old }
+    {
+        let flag = old.checked_sub(self.base)?;
+        if self.flags.len() <= flag / 64 {
+            return None;
+        }
+        Some(flags::rank_at(self.flags, self.ranks, flag, self.start))
+    }
+}
+
+// The new index of a text cell, which stands at `place` of the buffer, if its old one is among those of the chunk.
+#[tactic(auto, using(crate::proofs::Laws::index_laws))]
+fn put_index(s: &[u8], x: Entry, chunk: Chunk<'_>, out: &mut [u8], place: usize)
+    requires { (x.at < 4294967200) × (x.fate ≡ Text → place + 14 ≤ length out.old) }
+    ensures { out.new ≡ text_change s.now (rank_in chunk.entry.flags.now chunk.entry.start chunk.entry.base) chunk.entry.base (length chunk.entry.flags.now * 64) x.at x.size x.fate out.old place }
 {
-    let i = byte_numbers::u32_as_usize(byte_numbers::u32_or_zeros(s, p + 10));
-    if base <= i {
-        let j = i - base;
-        if j / 64 < flags.len() {
-            let r = flags::rank_at(flags, ranks, j, start);
-            byte_numbers::store(out, q + 10, 4, r);
+    if let Some(old) = new_places::text_index(s, x) {
+        if let Some(new) = chunk.new_index(old as usize) {
+            byte_numbers::store(out, place + 10, 4, new);
         }
     }
 }
 
-fn index_entry(
-    s: &[u8],
-    p: usize,
-    size: usize,
-    fate: Fate,
-    base: usize,
-    start: u64,
-    flags: &[u64],
-    ranks: &[u64],
-    out: &mut [u8],
-    q: usize,
-)
-    requires { (p < 4294967200) × (fate ≡ Fate.Text → q + 14 ≤ length out.old) × Ranked start flags.now ranks.now × (start ≤ 4294967296) × (length flags.now ≤ 65536) }
-    ensures { out.new ≡ text_change s.now (rank_in flags.now start base) base (length flags.now * 64) p size (fated fate) out.old q }
+// The new indices of the text cells whose old ones are among those of the chunk.
+// `Roomy` is a fact of stream, table and buffer together: a struct of the three would have to say in each contract that the buffer is still the caller's.
+#[tactic(auto, using(crate::proofs::Laws::place_laws, crate::proofs::Laws::text_keeps))]
+fn put_indices(s: &[u8], table: usize, chunk: Chunk<'_>, out: &mut [u8])
+    requires { Roomy s.now table (length out.old) }
+    ensures { out.new ≡ edited (text_change s.now (rank_in chunk.entry.flags.now chunk.entry.start chunk.entry.base) chunk.entry.base (length chunk.entry.flags.now * 64)) table (entries_of s.now) out.old 0 }
 {
-    match fate {
-        Fate::Text => {
-            put_index(s, p, base, start, flags, ranks, out, q);
-        }
-        Fate::Stays => {}
-        Fate::Goes => {}
-        Fate::Table => {}
-        Fate::Sheet => {}
-    }
-}
-
-// The new indices of the text cells whose old ones are among those from base on that have a flag here.
-fn put_indices(
-    s: &[u8],
-    table: usize,
-    base: usize,
-    start: u64,
-    flags: &[u64],
-    ranks: &[u64],
-    out: &mut [u8],
-)
-    requires { Roomy s.now table (length out.old) × Ranked start flags.now ranks.now × (start ≤ 4294967296) × (length flags.now ≤ 65536) }
-    ensures { out.new ≡ edited (text_change s.now (rank_in flags.now start base) base (length flags.now * 64)) table (entries_of s.now) out.old 0 }
-{
-    let mut w = Spot {
-        at: 0,
-        level: 0,
-        kind: 0,
-        gone: false,
-    };
-    let mut q: usize = 0;
-    loop {
-        let at = w.at;
-        match new_places::step_at(s, w) {
-            Step::Record { size, fate, next } => {
-                index_entry(s, at, size, fate, base, start, flags, ranks, out, q);
-                q = q + new_places::size_of(size, fate, table);
-                w = next;
-            }
-            Step::Rest => {
-                return;
-            }
-            Step::End => {
-                return;
-            }
-        }
+    let mut place = 0;
+    for x in Entries::of(s) {
+        put_index(s, x, chunk, out, place);
+        place += x.new_size(table);
     }
 }
 
 // How many text cells there are, and one more than their highest index.
-#[derive(Clone, Copy)]
+#[derive(Clone, Copy, Debug, PartialEq, Eq)]
 pub struct Census {
     pub total: usize,
     pub top: usize,
 }
 
-fn census_next(i: usize, c: Census) -> Census
-    requires { (c.total < 4294967296) × (i < 4294967296) }
-    ensures { (result.total ≡ c.total + 1) × (result.top ≡ top_in (i ∷ []) c.top) }
-{
-    let total = c.total + 1;
-    let top = c.top;
-    if i < top {
-        return Census { total, top };
-    }
-    Census { total, top: i + 1 }
-}
-
-fn census_entry(s: &[u8], p: usize, fate: Fate, c: Census) -> Census
-    requires { (p < 4294967200) × (c.total < 4294967296) }
-    ensures { (result.total ≡ c.total + length (on_text s.now p (fated fate) [])) × (result.top ≡ top_in (on_text s.now p (fated fate) []) c.top) }
-{
-    match fate {
-        Fate::Text => census_next(
-            byte_numbers::u32_as_usize(byte_numbers::u32_or_zeros(s, p + 10)),
-            c,
-        ),
-        Fate::Stays => c,
-        Fate::Goes => c,
-        Fate::Table => c,
-        Fate::Sheet => c,
-    }
-}
-
+#[tactic(auto, using(crate::proofs::Indices::count_laws))]
 pub fn count_texts(s: &[u8]) -> Census
     requires { length s.now ≤ 16777216 }
     ensures { (result.total ≡ length (texts_in s.now (entries_of s.now))) × (result.top ≡ top_in (texts_in s.now (entries_of s.now)) 0) }
 {
-    let mut w = Spot {
-        at: 0,
-        level: 0,
-        kind: 0,
-        gone: false,
-    };
-    let mut c = Census { total: 0, top: 0 };
-    loop {
-        let at = w.at;
-        match new_places::step_at(s, w) {
-            Step::Record {
-                size: _,
-                fate,
-                next,
-            } => {
-                c = census_entry(s, at, fate, c);
-                w = next;
-            }
-            Step::Rest => {
-                return c;
-            }
-            Step::End => {
-                return c;
-            }
+    let mut total = 0;
+    let mut top = 0;
+    for x in Entries::of(s) {
+        if let Some(index) = new_places::text_index(s, x) {
+            total += 1;
+            top = (index as usize + 1).max(top);
         }
     }
+    Census { total, top }
 }
 
 // The text cells whose index is among those from base on that have a flag here; `start` is the new index of the first used one of them. What it is
 // after the last.
+#[tactic(auto, using(crate::proofs::Indices::chunk_laws))]
 fn reindex_chunk(
     s: &[u8],
     table: usize,
@@ -187,11 +111,18 @@ fn reindex_chunk(
 {
     used_strings::mark(s, base, flags);
     let next = flags::rank_words(flags, start, ranks);
-    put_indices(s, table, base, start, flags, ranks, out);
+    let chunk = Chunk {
+        base,
+        start,
+        flags,
+        ranks,
+    };
+    put_indices(s, table, chunk, out);
     next
 }
 
 // The new indices of all text cells, whose old ones are below `top`.
+#[tactic(auto, using(crate::proofs::Indices::runs_laws))]
 pub fn reindex(
     s: &[u8],
     table: usize,
@@ -204,42 +135,38 @@ pub fn reindex(
     ensures { Reindexed s.now table top out.old out.new }
 {
     let k = flags.len() * 64;
-    let mut base: usize = 0;
     let mut start: u64 = 0;
-    while base < top {
+    for base in (0..top).step_by(k) {
         start = reindex_chunk(s, table, base, start, flags, ranks, out);
-        base += k;
     }
 }
 
 // Starts of top-level substreams, with their new places, in words that are lent: `count` of them so far, and as many starts as are to be passed over
 // before the next.
 #[derive(Clone, Copy)]
-pub struct Filling {
-    pub count: usize,
-    pub left: usize,
+struct Filling {
+    count: usize,
+    left: usize,
 }
 
 // The word of a place and its new place.
-fn slot_of(at: usize, q: usize) -> u64
-    requires { (at < 4294967296) × (q < 4294967296) }
-    ensures { (result / 4294967296 ≡ at) × (result % 4294967296 ≡ q) }
+fn word_of(at: usize, place: usize) -> u64
+    requires { (at < 4294967296) × (place < 4294967296) }
+    ensures { (result / 4294967296 ≡ at) × (result % 4294967296 ≡ place) }
 {
-    at as u64 * 4294967296 + q as u64
+    at as u64 * 4294967296 + place as u64
 }
 
 // A word more, where there is one.
-fn keep(count: usize, every: usize, at: usize, q: usize, slots: &mut [u64]) -> Filling
+#[tactic(auto, using(crate::proofs::Slots::grown_laws))]
+fn keep(count: usize, every: usize, at: usize, place: usize, slots: &mut [u64]) -> Filling
     requires { at < 4294967296 }
-    ensures { Grown count result.count (top at) q slots.old slots.new }
+    ensures { Grown count result.count (top at) place slots.old slots.new }
 {
-    if slots.len() <= count {
+    if slots.len() <= count || 4294967296 <= place {
         return Filling { count, left: every };
     }
-    if 4294967296 <= q {
-        return Filling { count, left: every };
-    }
-    slots[count] = slot_of(at, q);
+    slots[count] = word_of(at, place);
     Filling {
         count: count + 1,
         left: every,
@@ -247,165 +174,89 @@ fn keep(count: usize, every: usize, at: usize, q: usize, slots: &mut [u64]) -> F
 }
 
 // At a spot, with its new place.
-fn fill_at(f: Filling, every: usize, w: Spot, q: usize, slots: &mut [u64]) -> Filling
+#[tactic(auto, using(crate::proofs::Slots::grown_laws))]
+fn fill_at(f: Filling, every: usize, w: Spot, place: usize, slots: &mut [u64]) -> Filling
     requires { w.at < 4294967296 }
-    ensures { Grown f.count result.count w q slots.old slots.new }
+    ensures { Grown f.count result.count w place slots.old slots.new }
 {
-    if w.level == 0 {
-        if f.left == 0 {
-            return keep(f.count, every, w.at, q, slots);
-        }
-        return Filling {
-            count: f.count,
-            left: f.left - 1,
-        };
+    if w.level != 0 {
+        return f;
     }
-    f
-}
-
-// The starts of the top-level substreams, each after `every` that are passed over, and how many they are. The first word is the stream's start.
-fn fill_from(s: &[u8], table: usize, every: usize, slots: &mut [u64]) -> usize
-    requires { (length s.now ≤ 16777216) × (table ≤ 16777216) × (0 < length slots.old) × (get_or slots.old 0 0 ≡ 0) }
-    ensures { Slots s.now table result slots.new }
-{
-    let mut f = Filling {
-        count: 1,
-        left: every,
-    };
-    let mut w = Spot {
-        at: 0,
-        level: 0,
-        kind: 0,
-        gone: false,
-    };
-    let mut q: usize = 0;
-    loop {
-        f = fill_at(f, every, w, q, slots);
-        match new_places::step_at(s, w) {
-            Step::Record { size, fate, next } => {
-                q = q + new_places::size_of(size, fate, table);
-                w = next;
-            }
-            Step::Rest => {
-                return f.count;
-            }
-            Step::End => {
-                return f.count;
-            }
-        }
+    if f.left == 0 {
+        return keep(f.count, every, w.at, place, slots);
+    }
+    Filling {
+        count: f.count,
+        left: f.left - 1,
     }
 }
 
+// The starts of the top-level substreams, each after `every` that are passed over, and how many they are. The first is the stream's.
+#[tactic(auto, using(crate::proofs::Slots::fill_laws))]
 fn fill(s: &[u8], table: usize, every: usize, slots: &mut [u64]) -> usize
     requires { (length s.now ≤ 16777216) × (table ≤ 16777216) × (0 < length slots.old) }
     ensures { Slots s.now table result slots.new }
 {
     slots[0] = 0;
-    fill_from(s, table, every, slots)
+    let mut filling = Filling {
+        count: 1,
+        left: every,
+    };
+    let mut spot = Spot::top(0);
+    let mut place = 0;
+    // By steps: the spot after each entry is what is kept, and `Entries` gives the entries alone.
+    while let Some(Step { entry, next }) = new_places::step_at(s, spot) {
+        place += entry.new_size(table);
+        spot = next;
+        filling = fill_at(filling, every, spot, place, slots);
+    }
+    filling.count
 }
 
-// A word whose place isn't past p: the last one, where they ascend.
-fn seek(slots: &[u64], count: usize, p: usize) -> usize
-    requires { (0 < count) × (count ≤ length slots.now) × (get_or slots.now 0 0 ≡ 0) }
-    ensures { (result < count) × (get_or slots.now result 0 / 4294967296 ≤ p) }
-{
-    let mut low: usize = 0;
-    let mut high = count;
-    while 1 < high - low {
-        let middle = low + (high - low) / 2;
-        if (slots[middle] / 4294967296) as usize <= p {
-            low = middle;
-        } else {
-            high = middle;
+// New places of a stream whose new table has so many bytes: those of the starts that are kept in words, by which any other is found.
+#[derive(Clone, Copy)]
+struct NewPlaces<'a> {
+    stream: &'a [u8],
+    table: usize,
+    words: &'a [u64],
+    ghost slots: { Slots stream.now table (length words.now) words.now },
+}
+
+impl NewPlaces<'_> {
+    // The new place of the offset p.
+    fn of(&self, p: usize) -> usize
+        ensures { result ≡ place_for self.now.table (entries_of self.now.stream.now) p }
+    {
+        let words = self.words;
+        let after = words.partition_point(|word| (*word / 4294967296) as usize <= p);
+        let word = words[after - 1];
+        let entries = Entries::from_top(self.stream, (word / 4294967296) as usize);
+        entries.new_place(p, (word % 4294967296) as usize, self.table)
+    }
+
+    // The new position of a BOUNDSHEET, which stands at `place` of the buffer.
+    #[tactic(auto, using(crate::proofs::Laws::position_here))]
+    fn put_position(&self, x: Entry, out: &mut [u8], place: usize)
+        requires { (x.at < 4294967200) × (x.fate ≡ Sheet → place + 8 ≤ length out.old) }
+        ensures { out.new ≡ sheet_change self.now.stream.now (place_for self.now.table (entries_of self.now.stream.now)) x.at x.size x.fate out.old place }
+    {
+        if let Fate::Sheet = x.fate {
+            let old = byte_numbers::u32_or_zeros(self.stream, x.at + 4) as usize;
+            let new = self.of(old);
+            byte_numbers::store(out, place + 4, 4, new as u64);
         }
     }
-    low
-}
 
-// The new place of the offset p.
-fn place_by(s: &[u8], table: usize, slots: &[u64], count: usize, p: usize) -> usize
-    requires { Slots s.now table count slots.now }
-    ensures { result ≡ place_for table (entries_of s.now) p }
-{
-    let x = slots[seek(slots, count, p)];
-    let from = Spot {
-        at: (x / 4294967296) as usize,
-        level: 0,
-        kind: 0,
-        gone: false,
-    };
-    new_places::place_from(s, from, (x % 4294967296) as usize, table, p)
-}
-
-// The new position of the BOUNDSHEET at p, which stands at q of the buffer.
-fn put_position(
-    s: &[u8],
-    p: usize,
-    table: usize,
-    slots: &[u64],
-    count: usize,
-    out: &mut [u8],
-    q: usize,
-)
-    requires { Slots s.now table count slots.now × (p < 4294967200) × (q + 8 ≤ length out.old) }
-    ensures { out.new ≡ sheet_change s.now (place_for table (entries_of s.now)) p 0 (fated Fate.Sheet) out.old q }
-{
-    let old = byte_numbers::u32_as_usize(byte_numbers::u32_or_zeros(s, p + 4));
-    let new = place_by(s, table, slots, count, old);
-    byte_numbers::store(out, q + 4, 4, new as u64);
-}
-
-fn position_entry(
-    s: &[u8],
-    p: usize,
-    size: usize,
-    fate: Fate,
-    table: usize,
-    slots: &[u64],
-    count: usize,
-    out: &mut [u8],
-    q: usize,
-)
-    requires { Slots s.now table count slots.now × (p < 4294967200) × (fate ≡ Fate.Sheet → q + 8 ≤ length out.old) }
-    ensures { out.new ≡ sheet_change s.now (place_for table (entries_of s.now)) p size (fated fate) out.old q }
-{
-    match fate {
-        Fate::Sheet => {
-            put_position(s, p, table, slots, count, out, q);
-        }
-        Fate::Stays => {}
-        Fate::Goes => {}
-        Fate::Table => {}
-        Fate::Text => {}
-    }
-}
-
-// The new positions of the BOUNDSHEETs, from the words.
-fn put_sheets(s: &[u8], table: usize, slots: &[u64], count: usize, out: &mut [u8])
-    requires { Roomy s.now table (length out.old) × Slots s.now table count slots.now }
-    ensures { out.new ≡ edited (sheet_change s.now (place_for table (entries_of s.now))) table (entries_of s.now) out.old 0 }
-{
-    let mut w = Spot {
-        at: 0,
-        level: 0,
-        kind: 0,
-        gone: false,
-    };
-    let mut q: usize = 0;
-    loop {
-        let at = w.at;
-        match new_places::step_at(s, w) {
-            Step::Record { size, fate, next } => {
-                position_entry(s, at, size, fate, table, slots, count, out, q);
-                q = q + new_places::size_of(size, fate, table);
-                w = next;
-            }
-            Step::Rest => {
-                return;
-            }
-            Step::End => {
-                return;
-            }
+    // The new positions of the BOUNDSHEETs.
+    #[tactic(auto, using(crate::proofs::Laws::place_laws))]
+    fn put_sheets(&self, out: &mut [u8])
+        requires { Roomy self.now.stream.now self.now.table (length out.old) }
+        ensures { out.new ≡ edited (sheet_change self.now.stream.now (place_for self.now.table (entries_of self.now.stream.now))) self.now.table (entries_of self.now.stream.now) out.old 0 }
+    {
+        let mut place = 0;
+        for x in Entries::of(self.stream) {
+            self.put_position(x, out, place);
+            place += x.new_size(self.table);
         }
     }
 }
@@ -418,5 +269,10 @@ pub fn put_positions(s: &[u8], table: usize, slots: &mut [u64], out: &mut [u8])
 {
     let every = workbook::sheet_count(s) / slots.len();
     let count = fill(s, table, every, slots);
-    put_sheets(s, table, slots, count, out);
+    let places = NewPlaces {
+        stream: s,
+        table,
+        words: &slots[..count],
+    };
+    places.put_sheets(out);
 }

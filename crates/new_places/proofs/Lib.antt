@@ -1,4 +1,6 @@
 pub mod Laws
 pub mod Walking
-pub mod Place
+pub mod Places
 pub mod Whole
+pub mod Lying
+pub mod Texts

@@ -37,7 +37,10 @@ use Rattle.reads_after.proofs.Records.{After, inside_past, inside_text}
 use Rattle.moved_records.proofs.Later.{later_cursor, later_got}
 use Rattle.moved_records.proofs.Views.{num_drop}
 use Rattle.moved_records.proofs.Texts.{text_drop}
-use Rattle.new_stream.specs.Entries.{Spot, Fate, stays, goes, table, text, sheet, fate_of, spot_after, parts}
+use Rattle.new_stream.specs.declared.Spot.{Spot}
+use Rattle.new_stream.specs.declared.Fate.{Fate}
+use Rattle.new_stream.specs.declared.Fate.TheVariants.{Stays, Goes, Table, Text, Sheet}
+use Rattle.new_stream.specs.Entries.{fate_of, spot_after, parts}
 use Rattle.new_stream.specs.Parts.{Given, View}
 use Rattle.new_stream.proofs.Written.{text_same, text_number, text_used, view_byte}
 use Rattle.new_stream.proofs.Fates.{after_at, after_gone, after_kind, after_plain, after_bof, after_eof, Turns, turns}
@@ -118,7 +121,7 @@ module _ (m : Given) (u u' to : ℕ) (fresh : (i : ℕ) → m.Used i → i < u �
     within : w.level ≡ 0 → ⊥
     within i = let j = tr.level in omega arith
 
-    free_gone : (ty z e : ℕ) → header_at s w.at ≡ Record ty z e → fate_of w ty ≡ goes → (ty ≡ 0x0809 → ⊥) → (ty ≡ 0x000A → ⊥) → continues t q ≡ false
+    free_gone : (ty z e : ℕ) → header_at s w.at ≡ Record ty z e → fate_of w ty ≡ Goes → (ty ≡ 0x0809 → ⊥) → (ty ≡ 0x000A → ⊥) → continues t q ≡ false
     free_gone ty z e h i a b =
         let x = whole s w.at ty z e h in
         let at = after_at s w ty e in
@@ -132,12 +135,12 @@ module _ (m : Given) (u u' to : ℕ) (fresh : (i : ℕ) → m.Used i → i < u �
         (λ g. let f : (spot_after s w ty e).gone ≡ true = after_gone s w ty e ∙ ap parts i in never (cc))
 
     free_record : (ty z e : ℕ) → header_at s w.at ≡ Record ty z e → (f : Fate) → fate_of w ty ≡ f → Turns w (kind_of l) ty f → continues t q ≡ false
-    free_record ty z e h stays i k = kept_free m w q ty z e within tr.view h i k.0 none
-    free_record ty z e h goes i (inl c) = free_gone ty z e h i (λ x. omega arith) (λ x. omega arith)
-    free_record ty z e h goes i (inr c) = free_gone ty z e h i (λ x. omega arith) (λ x. omega arith)
-    free_record ty z e h text i k = continues_not t q ty z (q + (4 + z)) (text_header m w q ty z e within tr.view h i) (λ c. let j = k.1 in omega arith)
-    free_record ty z e h table i k = absurd k
-    free_record ty z e h sheet i k = absurd k
+    free_record ty z e h Stays i k = kept_free m w q ty z e within tr.view h i k.0 none
+    free_record ty z e h Goes i (inl c) = free_gone ty z e h i (λ x. omega arith) (λ x. omega arith)
+    free_record ty z e h Goes i (inr c) = free_gone ty z e h i (λ x. omega arith) (λ x. omega arith)
+    free_record ty z e h Text i k = continues_not t q ty z (q + (4 + z)) (text_header m w q ty z e within tr.view h i) (λ c. let j = k.1 in omega arith)
+    free_record ty z e h Table i k = absurd k
+    free_record ty z e h Sheet i k = absurd k
 
     free_header : (x : Header) → header_at s w.at ≡ x → continues t q ≡ false
     free_header (Record ty z e) h =
@@ -192,11 +195,11 @@ module _ (m : Given) (u u' to : ℕ) (fresh : (i : ℕ) → m.Used i → i < u �
     level_same a b = after_plain s w ty e a b ∙ tr.level
 
     -- ---- it is gone
-    goes_read : fate_of w ty ≡ goes → (ty ≡ 0x003C) ⊎ (ty ≡ 0x020B) → (ty ≡ 0x0809 → ⊥) → (ty ≡ 0x000A → ⊥) → Reads p l q
+    goes_read : fate_of w ty ≡ Goes → (ty ≡ 0x003C) ⊎ (ty ≡ 0x020B) → (ty ≡ 0x0809 → ⊥) → (ty ≡ 0x000A → ⊥) → Reads p l q
     goes_read i c a b =
         moves p l q e l q (list_skip s p l ty z e h a b (λ _. gone_none s ty p z c)) refl (next l q (level_same a b) (past.else a b) (gone_next m w q ty z e deep tr.view h i))
 
-    goes_by : fate_of w ty ≡ goes → (ty ≡ 0x003C) ⊎ (ty ≡ 0x020B) → Reads p l q
+    goes_by : fate_of w ty ≡ Goes → (ty ≡ 0x003C) ⊎ (ty ≡ 0x020B) → Reads p l q
     goes_by i (inl c) = goes_read i (inl c) (λ x. omega arith) (λ x. omega arith)
     goes_by i (inr c) = goes_read i (inr c) (λ x. omega arith) (λ x. omega arith)
 
@@ -217,13 +220,13 @@ module _ (m : Given) (u u' to : ℕ) (fresh : (i : ℕ) → m.Used i → i < u �
     }
 
     -- ---- it gets a new index
-    text_read : fate_of w ty ≡ text → l ≡ 0 → ty ≡ 0x00FD → Reads p l q
+    text_read : fate_of w ty ≡ Text → l ≡ 0 → ty ≡ 0x00FD → Reads p l q
     text_read i zero-level c =
         let right = inside_label s u to l p z e tr.inside zero-level (h ∙ ap (λ (n : ℕ). Record n z e) c) in
         let ten : z ≡ 10 = right.0 in
         let fit = fits m w q ty z e deep tr.view h in
         let lat = later m w q ty z e deep tr.view h in
-        let ent = entries_by m w q ty z e deep tr.view h text i in
+        let ent = entries_by m w q ty z e deep tr.view h Text i in
         let used = text_used m w after q (4 + z) tr.view fit lat ent in
         let below : m.index (u32_at s (p + 10)) < u' = fresh (u32_at s (p + 10)) used right.1 in
         let number : u32_at t (q + 10) ≡ m.index (u32_at s (p + 10)) = sym (num_drop t q 4 10) ∙ text_number m w after q (4 + z) tr.view fit lat ent (omega arith) (omega arith) in
@@ -232,13 +235,13 @@ module _ (m : Given) (u u' to : ℕ) (fresh : (i : ℕ) → m.Used i → i < u �
         let one₁ : count_of (shape_of ty) t q z ≡ 1 = ap₂ (λ (x : Shape) (n : ℕ). count_of x t q n) shape ten ∙ label_one t q in
         cells_then (q + (4 + z)) (text_header m w q ty z e deep tr.view h i) zero-level (omega arith) (omega arith)
         (ap₂ (λ (x : Shape) (n : ℕ). map (cell_reading t) (cells_of t x q n)) shape ten
-        ∙ text_moved m.index m.byte s t p q (λ k a b. text_same m w after q (4 + z) tr.view fit lat ent k (omega arith) (inl b)) number (view_byte m w after q (4 + z) text tr.view ent fit lat 10 (omega arith))
+        ∙ text_moved m.index m.byte s t p q (λ k a b. text_same m w after q (4 + z) tr.view fit lat ent k (omega arith) (inl b)) number (view_byte m w after q (4 + z) Text tr.view ent fit lat 10 (omega arith))
         ∙ sym (ap₂ (λ (x : Shape) (n : ℕ). map (retexted_cell m.index m.byte) (map (cell_reading s) (cells_of s x p n))) shape ten))
         (subst (Every (Says m.Used)) (sym (ap₂ (λ (x : Shape) (n : ℕ). cells_of s x p n) shape ten)) (label_says m.Used s p used))
         (next 0 (q + (4 + z)) (level_same (λ x. omega arith) (λ x. omega arith) ∙ ap (λ (n : ℕ). n + 1) zero-level) (subst (λ (n : ℕ). Inside s u to n e) zero-level (past.else (λ x. omega arith) (λ x. omega arith))) (text_next m w q ty z e deep tr.view h i))
 
     -- ---- it stays
-    module _ (i : fate_of w ty ≡ stays) (no_text : kind_of l ≡ 0x0010 → ty ≡ 0x00FD → ⊥) where
+    module _ (i : fate_of w ty ≡ Stays) (no_text : kind_of l ≡ 0x0010 → ty ≡ 0x00FD → ⊥) where
       abbrev e₁ : ℕ
       e₁ = q + (4 + z)
 
@@ -323,7 +326,7 @@ module _ (m : Given) (u u' to : ℕ) (fresh : (i : ℕ) → m.Used i → i < u �
           let sc = same_count in
           cells_then e₁ header₁ zero-level some (omega arith)
           (cells_moved s t p q z low view₁.within same₁ ty (whole s p ty z e h).size (shown zero-level (omega arith)) m.index m.byte no
-          (λ n x. view_byte m w after q (4 + z) stays tr.view (entries_by m w q ty z e deep tr.view h stays i) (fits m w q ty z e deep tr.view h) (later m w q ty z e deep tr.view h) n x))
+          (λ n x. view_byte m w after q (4 + z) Stays tr.view (entries_by m w q ty z e deep tr.view h Stays i) (fits m w q ty z e deep tr.view h) (later m w q ty z e deep tr.view h) n x))
           (plain_says m.Used s p ty z no)
           (next 0 e₁ (level_same a b ∙ ap (λ (n : ℕ). n + 1) zero-level) (subst (λ (n : ℕ). Inside s u to n e) zero-level (past.else a b)) view₁)
       plain_read a b true j false k = skip_read a b (λ _. let n = ltb-false 0 (count_of (shape_of ty) s p z) k in omega arith)
@@ -356,11 +359,11 @@ module _ (m : Given) (u u' to : ℕ) (fresh : (i : ℕ) → m.Used i → i < u �
           by false j = rest (eqb-false ty 0x0809 j) (eqb ty 0x000A) refl
 
     record_by : (x : Fate) → fate_of w ty ≡ x → Turns w (kind_of l) ty x → Reads p l q
-    record_by stays i f = stays_read i f.1
-    record_by goes i f = goes_by i f
-    record_by text i f = text_read i (kind_sheet l f.0) f.1
-    record_by table i f = absurd f
-    record_by sheet i f = absurd f
+    record_by Stays i f = stays_read i f.1
+    record_by Goes i f = goes_by i f
+    record_by Text i f = text_read i (kind_sheet l f.0) f.1
+    record_by Table i f = absurd f
+    record_by Sheet i f = absurd f
 
     record_read : Reads p l q
     record_read = record_by (fate_of w ty) refl (turns w (kind_of l) ty (λ j. tr.kind ∙ kind_top l (sym tr.level ∙ j)) (λ j. kind_chart l (λ x. j (tr.level ∙ x))) (kind_later l))

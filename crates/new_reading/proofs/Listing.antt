@@ -7,20 +7,19 @@ use native.Mathlib.Omega.{arith}
 use lib.ListN.{length}
 use lib.Dec.{eqb}
 use borrow.Author.Tests.{eqb-true}
+use Rattle.std.specs.Prelude.{Option, Some, None, Result, Ok, Err}
+use Rattle.refusal.specs.declared.Refusal.{Refusal}
+use Rattle.refusal.specs.Refused.{refuse}
 use Rattle.steps.specs.Choice.{pick}
 use Rattle.steps.proofs.Choice.{never, pick_by, pick_eq, pick_ne, pick_lt, pick_nlt}
 use Rattle.steps.specs.Items.{Item, skips, ends, onto}
 use Rattle.byte_numbers.specs.Bytes.{u32_at}
 use Rattle.record.specs.declared.Header.TheVariants.{Record, Cut, End}
 use Rattle.record.specs.Record.{header_at}
-use Rattle.cell.specs.declared.Judged.{Judged}
-use Rattle.cell.specs.declared.Judged.TheVariants as judged
 use Rattle.cell.specs.declared.Shape.TheVariants.{LABELSST}
 use Rattle.cell.specs.declared.Cell.{Cell}
 use Rattle.cell.specs.Cells.{shape_of, count_of, judge_of}
 use Rattle.substream.specs.declared.Here.{Here}
-use Rattle.substream.specs.declared.Step.TheVariants.{Stop}
-use Rattle.substream.specs.declared.Ended.TheVariants.{At, Refused}
 use Rattle.substream.specs.Substream.{on_judged, on_header, step_of, turn, records_from, substream_in}
 use Rattle.substream.proofs.Laws.{Inner, Onward, from_stop, onward}
 use Rattle.reading.specs.declared.Place.{Place}
@@ -84,11 +83,11 @@ module _ (s : List ℕ) (at l ty z e : ℕ) (h : header_at s at ≡ Record ty z 
   list_back a b = by_other (λ _. mark_none (inr a)) ∙ ap out (sym (pick_ne (skips (place_at e (l - 1))) _ _ ty 0x0809 (λ c. omega arith) (pick_eq (skips (place_at e (l - 1))) _ _ ty 0x000A a (pick_ne (skips (place_at e (l - 1))) _ _ l 0 b refl))))
 
 -- ---- what is inside a worksheet that passes
-record_there : (inner : Inner) (s : List ℕ) → Onward inner s → (k u to : ℕ) (h : Here) → records_from inner s k u h ≡ At to → (header_at s h.at ≡ Cut → ⊥) × (header_at s h.at ≡ End → ⊥)
+record_there : (inner : Inner) (s : List ℕ) → Onward inner s → (k u to : ℕ) (h : Here) → records_from inner s k u h ≡ Ok to → (header_at s h.at ≡ Cut → ⊥) × (header_at s h.at ≡ End → ⊥)
 unfolding step_of
 record_there inner s ahead k u to h r = (
-  (λ c. let i = from_stop inner s ahead k u h (Refused 2 h.at) (ap (turn inner) (ap (on_header s k u h) c)) in let z : ◌≡◌ {A = ℕ} 0 1 = cc in omega arith),
-  (λ c. let i = from_stop inner s ahead k u h (Refused 4 (length s)) (ap (turn inner) (ap (on_header s k u h) c)) in let z : ◌≡◌ {A = ℕ} 0 1 = cc in omega arith),
+  (λ c. let i = from_stop inner s ahead k u h (refuse 2 h.at) (ap (turn inner) (ap (on_header s k u h) c)) in let z : ◌≡◌ {A = ℕ} 0 1 = cc in omega arith),
+  (λ c. let i = from_stop inner s ahead k u h (refuse 4 (length s)) (ap (turn inner) (ap (on_header s k u h) c)) in let z : ◌≡◌ {A = ℕ} 0 1 = cc in omega arith),
 )
 
 pub inside_there : (s : List ℕ) (u to l at : ℕ) → Inside s u to l at → (header_at s at ≡ Cut → ⊥) × (header_at s at ≡ End → ⊥)
@@ -97,13 +96,13 @@ inside_there s u to l at (chart m d e h i j n r x) = subst (λ (y : ℕ). (heade
 inside_there s u to l at (plain e p i) = let h = p.over.is in ((λ c. never (cc)), (λ c. never (cc)))
 
 -- a LABELSST directly in it is right
-label_by : (s : List ℕ) (u to : ℕ) (h : Here) (z e : ℕ) → records_from (substream_in 3 s u 0x0020) s 0x0010 u h ≡ At to → header_at s h.at ≡ Record 0x00FD z e → (x : Judged) → judge_of s LABELSST h.at z u ≡ x → (z ≡ 10) × (u32_at s (h.at + 10) < u)
+label_by : (s : List ℕ) (u to : ℕ) (h : Here) (z e : ℕ) → records_from (substream_in 3 s u 0x0020) s 0x0010 u h ≡ Ok to → header_at s h.at ≡ Record 0x00FD z e → (x : Result (Option ℕ) Refusal) → judge_of s LABELSST h.at z u ≡ x → (z ≡ 10) × (u32_at s (h.at + 10) < u)
 unfolding step_of
-label_by s u to h z e r hd (judged.Passed n) j = label_index s h.at z u n j
-label_by s u to h z e r hd (judged.Refused n o) j =
-    let step : step_of s 0x0010 u h ≡ Stop n o = ap (on_header s 0x0010 u h) hd ∙ label_step s 0x0010 u h 0x00FD z e refl refl ∙ ap (on_judged s 0x0010 h 0x00FD z e) j in
-    let i = from_stop (substream_in 3 s u 0x0020) s (onward 3 s u 0x0020) 0x0010 u h (Refused n o) (ap (turn (substream_in 3 s u 0x0020)) step) in never (cc)
-label_by s u to h z e r hd judged.Other j = absurd (label_told s h.at z u j)
+label_by s u to h z e r hd (Ok (Some n)) j = label_index s h.at z u n j
+label_by s u to h z e r hd (Err r₁) j =
+    let step : step_of s 0x0010 u h ≡ Err r₁ = ap (on_header s 0x0010 u h) hd ∙ label_step s 0x0010 u h 0x00FD z e refl refl ∙ ap (on_judged s 0x0010 h 0x00FD z e) j in
+    let i = from_stop (substream_in 3 s u 0x0020) s (onward 3 s u 0x0020) 0x0010 u h (Err r₁) (ap (turn (substream_in 3 s u 0x0020)) step) in never (cc)
+label_by s u to h z e r hd (Ok None) j = absurd (label_told s h.at z u j)
 
 pub inside_label : (s : List ℕ) (u to l at z e : ℕ) → Inside s u to l at → l ≡ 0 → header_at s at ≡ Record 0x00FD z e → (z ≡ 10) × (u32_at s (at + 10) < u)
 inside_label s u to l at z e (sheet h i j r) zero-level hd = subst (λ (x : ℕ). (z ≡ 10) × (u32_at s (x + 10) < u)) j (label_by s u to h z e r (ap (header_at s) j ∙ hd) (judge_of s LABELSST h.at z u) refl)

@@ -6,19 +6,19 @@ use mathlib.Core.Bool.{Bool, true, false}
 use native.Mathlib.Omega.{arith}
 use lib.ListN.{length, take, drop, length-drop}
 use lib.Seq.{get_or-drop, drop-drop}
-use lib.Dec.{eqb, ltb}
-use borrow.Author.Tests.{eqb-true}
+use lib.Dec.{ltb}
 use Rattle.steps.specs.Choice.{pick}
 use Rattle.byte_numbers.specs.Bytes.{byte_at}
 use Rattle.record.proofs.Laws.{whole}
 use Rattle.segments.specs.Segments.{width_of}
 use Rattle.record_after.proofs.Changed.{bytes_same}
 use Rattle.cell.specs.declared.Cell.{Cell}
-use Rattle.sheet_agreement.specs.Agreement.{Sheet}
+use Rattle.sheet_agreement.specs.declared.SheetKind.TheVariants.{Worksheet}
+use Rattle.sheet_agreement.specs.Agreement.{same_kind, Sheet}
+use Rattle.sheet_agreement.proofs.Laws.{same_kind-true}
 use Rattle.globals.specs.declared.Globals.{Globals}
 use Rattle.globals.specs.Sheets.{sheets_of}
-use Rattle.workbook.specs.declared.Checked.TheVariants.{Right}
-use Rattle.workbook.specs.Check.{checked_of}
+use Rattle.workbook.specs.Check.{Right, checked_of}
 use Rattle.reading.specs.Cells.{place_at, listed_from}
 use Rattle.reading.specs.Reading.{on_name, name_at, width_at, type_at, start_by, listed_of, rows_of, CellReading, cell_reading, sheet_reading, reading_of}
 use Rattle.reading.specs.Claims.{Every}
@@ -30,7 +30,8 @@ use Rattle.record_chain.proofs.Sheets.{sheets_stand}
 use Rattle.reads_after.specs.Parts.{Inside}
 use Rattle.reads_after.proofs.Found.{worksheet, sheet_start, listed_none}
 use Rattle.reads_after.proofs.Lists.{map_map}
-use Rattle.new_stream.specs.Entries.{Spot, entries_of}
+use Rattle.new_stream.specs.declared.Spot.{Spot}
+use Rattle.new_stream.specs.Entries.{entries_of}
 use Rattle.new_stream.specs.Compact.{compact_with, texts_in, uses}
 use Rattle.new_stream.specs.Parts.{Given, BoundMoved, BofViewed, given_of, Made}
 use Rattle.new_stream.specs.Claims.{TableOf, place_of, sheet_moved, Compacted}
@@ -131,7 +132,7 @@ module _ (s T : List ℕ) (u : ℕ) (g : Globals) (few : u ≤ 256 ^ 4) (ok : ch
     opened_at_lem = after_at s w 0x0809 (x.position + 20)
 
     -- the cells of a worksheet, read in both streams
-    reads_of : x.kind ≡ 1 → Reads m g.unique u' stand.end facts.fresh facts.small (x.position + 20) 0 (r + 20)
+    reads_of : x.kind ≡ Worksheet → Reads m g.unique u' stand.end facts.fresh facts.small (x.position + 20) 0 (r + 20)
     unfolding place_at
     reads_of k =
         let o = opening s x.position stand.whole.kind stand.whole.opens in
@@ -151,18 +152,18 @@ module _ (s T : List ℕ) (u : ℕ) (g : Globals) (few : u ≤ 256 ^ 4) (ok : ch
 
     pub listed_says : Every Says (listed_of s x)
     unfolding start_by pick
-    listed_says = by (eqb x.kind 1) refl
+    listed_says = by (same_kind x.kind Worksheet) refl
       where
-        by : (b : Bool) → eqb x.kind 1 ≡ b → Every Says (listed_from s (pick b (place_at (x.position + 20) 0) (place_at (length s) 0)))
-        by true j = (reads_of (eqb-true x.kind 1 j)).says
+        by : (b : Bool) → same_kind x.kind Worksheet ≡ b → Every Says (listed_from s (pick b (place_at (x.position + 20) 0) (place_at (length s) 0)))
+        by true j = (reads_of (same_kind-true x.kind Worksheet j)).says
         by false j = subst (Every Says) (sym (listed_none s (length s) (omega arith))) tt
 
     listed_moved : map (cell_reading t) (listed_of t (sheet_moved s T x)) ≡ map (retexted_cell (index_of s T) (byte_of s T)) (map (cell_reading s) (listed_of s x))
     unfolding start_by pick
-    listed_moved = by (eqb x.kind 1) refl
+    listed_moved = by (same_kind x.kind Worksheet) refl
       where
-        by : (b : Bool) → eqb x.kind 1 ≡ b → map (cell_reading t) (listed_from t (pick b (place_at (r + 20) 0) (place_at (length t) 0))) ≡ map (retexted_cell (index_of s T) (byte_of s T)) (map (cell_reading s) (listed_from s (pick b (place_at (x.position + 20) 0) (place_at (length s) 0))))
-        by true j = (reads_of (eqb-true x.kind 1 j)).same
+        by : (b : Bool) → same_kind x.kind Worksheet ≡ b → map (cell_reading t) (listed_from t (pick b (place_at (r + 20) 0) (place_at (length t) 0))) ≡ map (retexted_cell (index_of s T) (byte_of s T)) (map (cell_reading s) (listed_from s (pick b (place_at (x.position + 20) 0) (place_at (length s) 0))))
+        by true j = (reads_of (same_kind-true x.kind Worksheet j)).same
         by false j = ap (map (cell_reading t)) (listed_none t (length t) (omega arith)) ∙ sym (ap (λ (l : List Cell). map (retexted_cell (index_of s T) (byte_of s T)) (map (cell_reading s) l)) (listed_none s (length s) (omega arith)))
 
     sheet_moved_lem : sheet_reading t (sheet_moved s T x) ≡ retexted_sheet (index_of s T) (byte_of s T) (sheet_reading s x)

@@ -14,8 +14,7 @@ use Rattle.record.specs.declared.Header.TheVariants.{Record}
 use Rattle.record.specs.Record.{header_at}
 use Rattle.globals.specs.declared.Globals.{Globals}
 use Rattle.globals.specs.Globals.{globals_of}
-use Rattle.workbook.specs.declared.Checked.TheVariants.{Right}
-use Rattle.workbook.specs.Check.{checked_of}
+use Rattle.workbook.specs.Check.{Right, checked_of}
 use Rattle.reading.specs.Reading.{strings_at, listed_of, on_globals, reading_of}
 use Rattle.record_chain.proofs.Sheets.{passing}
 use Rattle.new_stream.specs.Entries.{entries_of}

@@ -5,10 +5,10 @@ use mathlib.Core.List.{List, [], ◌∷◌, ◌++◌}
 use native.Mathlib.Omega.{arith}
 use lib.Dec.{eqb}
 use borrow.Author.Tests.{eqb-true}
+use Rattle.std.specs.Prelude.{Option, Some, None}
+use Rattle.std.specs.Prelude.{Float as F64}
 use Rattle.steps.specs.Choice.{pick}
 use Rattle.steps.proofs.Choice.{pick_any, pick_by}
-use Rattle.number.specs.declared.Rk.{Rk}
-use Rattle.number.specs.declared.Rk.TheVariants.{Number as RkNumber, Nothing as RkNothing}
 use Rattle.number.specs.Rk.{rk_of}
 use Rattle.value.specs.declared.Field.{Field}
 use Rattle.value.specs.declared.CellValue.{CellValue}
@@ -39,9 +39,9 @@ float_not : (n : ℕ) → NotText (float_value n)
 unfolding float_value
 float_not n = pick_any NotText _ tt tt
 
-rk_not : (x : Rk) → NotText (rk_value x)
-rk_not (RkNumber x) = tt
-rk_not RkNothing = tt
+rk_not : (x : Option F64) → NotText (rk_value x)
+rk_not (Some x) = tt
+rk_not None = tt
 
 truth_not : (n : ℕ) → NotText (truth_error n)
 unfolding truth_error

@@ -9,6 +9,8 @@ use lib.ListN.{length, take, drop, length-drop as list-drop}
 use lib.Seq.{drop-drop}
 use lib.Dec.{ltb, eqb}
 use borrow.Author.Tests.{eqb-true}
+use Rattle.std.specs.Prelude.{Option, Some, None}
+use Rattle.std.specs.Prelude.{Float as F64}
 use Rattle.steps.specs.Choice.{pick}
 use Rattle.steps.proofs.Choice.{pick_any, pick_by, pick_nlt, pick_same}
 use Rattle.byte_numbers.specs.Bytes.{num_at, u16_at, u32_at}
@@ -18,8 +20,6 @@ use Rattle.record.specs.declared.Header.TheVariants.{Record, Cut, End}
 use Rattle.record.specs.Record.{header_at}
 use Rattle.segments.specs.Segments.{Got, got, refused, list_of}
 use Rattle.text_result.specs.TextResult.{has_text, text_of}
-use Rattle.number.specs.declared.Rk.{Rk}
-use Rattle.number.specs.declared.Rk.TheVariants.{Number as RkNumber, Nothing as RkNothing}
 use Rattle.number.specs.Rk.{rk_of}
 use Rattle.value.specs.declared.Field.{Field}
 use Rattle.value.specs.declared.Field.TheVariants.{NoField, Float, RkWord, TextIndex, TruthError, StoredResult}
@@ -165,9 +165,9 @@ module _ (index : ℕ → ℕ) where
   unfolding float_value
   float_stays n = pick_any Stays _ refl refl
 
-  rk_stays : (x : Rk) → Stays (rk_value x)
-  rk_stays (RkNumber x) = refl
-  rk_stays RkNothing = refl
+  rk_stays : (x : Option F64) → Stays (rk_value x)
+  rk_stays (Some x) = refl
+  rk_stays None = refl
 
   truth_stays : (n : ℕ) → Stays (truth_error n)
   unfolding truth_error

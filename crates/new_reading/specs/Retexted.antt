@@ -7,8 +7,7 @@ use Rattle.value.specs.declared.CellValue.{CellValue}
 use Rattle.value.specs.declared.CellValue.TheVariants.{Blank, Number, NotNumber, Text, Truth, Error, Formula}
 use Rattle.strings.specs.Table.{strings_of}
 use Rattle.globals.specs.declared.Globals.{Globals}
-use Rattle.workbook.specs.declared.Checked.TheVariants.{Right}
-use Rattle.workbook.specs.Check.{checked_of}
+use Rattle.workbook.specs.Check.{Right, checked_of}
 use Rattle.cell.specs.declared.Cell.{Cell}
 use Rattle.sheet_agreement.specs.Agreement.{Sheet}
 use Rattle.globals.specs.Sheets.{sheets_of}

@@ -8,6 +8,8 @@ use native.Mathlib.Omega.{arith}
 use lib.ListN.{length, drop}
 use lib.Dec.{eqb}
 use borrow.Author.Tests.{eqb-true, eqb-false}
+use Rattle.std.specs.Prelude.{None, Result, Ok}
+use Rattle.refusal.specs.declared.Refusal.{Refusal}
 use Rattle.steps.specs.Choice.{pick}
 use Rattle.steps.proofs.Choice.{never, pick_by, pick_eq, pick_true}
 use Rattle.byte_numbers.specs.Bytes.{u16_at}
@@ -16,22 +18,19 @@ use Rattle.record.specs.declared.Header.{Header}
 use Rattle.record.specs.declared.Header.TheVariants.{Record, Cut, End}
 use Rattle.record.specs.Record.{header_at}
 use Rattle.record.proofs.Laws.{whole}
-use Rattle.sheet_agreement.specs.declared.Agreement.TheVariants.{Agree}
 use Rattle.sheet_agreement.specs.Agreement.{Sheet, starts, agreement_of}
 use Rattle.globals.specs.declared.Globals.{Globals}
-use Rattle.globals.specs.declared.Ended.{Ended}
-use Rattle.globals.specs.declared.Ended.TheVariants.{At}
 use Rattle.globals.specs.Globals.{records_from, opened, is_globals_bof, on_first, globals_of}
 use Rattle.globals.specs.Sheets.{sheets_of}
 use Rattle.globals.proofs.Table.{Stands, table_told}
 use Rattle.top_level.specs.TopLevel.{bofs_from}
-use Rattle.workbook.specs.declared.Checked.TheVariants.{Right}
-use Rattle.workbook.specs.Check.{checked_of}
+use Rattle.workbook.specs.Check.{Right, checked_of}
 use Rattle.record_chain.specs.Tops.{Passing}
 use Rattle.record_chain.proofs.Chain.{every_map}
 use Rattle.record_chain.proofs.Sheets.{passing, passes}
 use Rattle.moved_records.proofs.Moved.{num_moved, header_moved}
-use Rattle.new_stream.specs.Entries.{Entry, start, entries_of}
+use Rattle.new_stream.specs.declared.Entry.{Entry}
+use Rattle.new_stream.specs.Entries.{start, entries_of}
 use Rattle.new_stream.specs.Compact.{place_in, texts_in, uses, index_in, compact_with}
 use Rattle.new_stream.specs.Parts.{Given, View, BofViewed, given_of, Made}
 use Rattle.new_stream.proofs.Echoed.{Echoes}
@@ -49,7 +48,7 @@ pub record First (s : List ℕ) (u : ℕ) (g : Globals) : Type 0 where
   pub header : header_at s 0 ≡ Record 0x0809 16 20
   pub version : u16_at s 4 ≡ 0x0600
   pub kind : u16_at s 6 ≡ 0x0005
-  pub ends : records_from s (opened u) ≡ At g
+  pub ends : records_from s (opened u) ≡ Ok g
 
 module _ (s : List ℕ) (u : ℕ) (g : Globals) where
   bof_is : (t z : ℕ) → is_globals_bof s t z ≡ true → (t ≡ 0x0809) × (z ≡ 16) × (u16_at s 4 ≡ 0x0600) × (u16_at s 6 ≡ 0x0005)
@@ -64,9 +63,9 @@ module _ (s : List ℕ) (u : ℕ) (g : Globals) where
       by true false c d i j k l e = never (cc)
       by false b c d i j k l e = never (cc)
 
-  first_by : (x : Header) → header_at s 0 ≡ x → on_first s u x ≡ At g → First s u g
+  first_by : (x : Header) → header_at s 0 ≡ x → on_first s u x ≡ Ok g → First s u g
   first_by (Record t z e) h i =
-      pick_by (λ (a : Ended). a ≡ At g → First s u g) (is_globals_bof s t z)
+      pick_by (λ (a : Result Globals Refusal). a ≡ Ok g → First s u g) (is_globals_bof s t z)
       (λ b j.
       let f = bof_is t z b in
       let w = whole s 0 t z e h in
@@ -78,13 +77,13 @@ module _ (s : List ℕ) (u : ℕ) (g : Globals) where
   first_by Cut h i = never (cc)
   first_by End h i = never (cc)
 
-  pub first : globals_of s u ≡ At g → First s u g
+  pub first : globals_of s u ≡ Ok g → First s u g
   unfolding globals_of
   first h = first_by (header_at s 0) refl h
 
-  pub firsts : First s u g → globals_of s u ≡ At g
+  pub firsts : First s u g → globals_of s u ≡ Ok g
   unfolding globals_of is_globals_bof
-  firsts f = ap (on_first s u) f.header ∙ sym (pick_true (At g) _ _ _ (sym (pick_eq true _ _ 0x0809 0x0809 refl (pick_eq true _ _ 16 16 refl (pick_eq true _ _ (u16_at s 4) 0x0600 f.version (pick_eq true _ _ (u16_at s 6) 0x0005 f.kind refl))))) (sym f.ends))
+  firsts f = ap (on_first s u) f.header ∙ sym (pick_true (Ok g) _ _ _ (sym (pick_eq true _ _ 0x0809 0x0809 refl (pick_eq true _ _ 16 16 refl (pick_eq true _ _ (u16_at s 4) 0x0600 f.version (pick_eq true _ _ (u16_at s 6) 0x0005 f.kind refl))))) (sym f.ends))
 
 -- ---- the new stream
 module _ (s T : List ℕ) (u : ℕ) (g : Globals) (few : u ≤ 256 ^ 4) (ok : checked_of s u ≡ Right g) (tab : TableOf s T g) (short : length (compact_with s T) ≤ 16777216) where
@@ -168,7 +167,7 @@ module _ (s T : List ℕ) (u : ℕ) (g : Globals) (few : u ≤ 256 ^ 4) (ok : ch
   unfolding opened
   sheets_are = lands.sheets
 
-  agree : agreement_of (sheets_of t) (bofs_from t g'.unique g'.at) ≡ Agree
+  agree : agreement_of (sheets_of t) (bofs_from t g'.unique g'.at) ≡ None
   agree = ap₂ agreement_of sheets_are tops.bofs ∙ agreement_moved m (λ p. refl) (sheets_of s) (bofs_from s g.unique g.at) tops.apart old.agree
 
   found : (g.table ≡ 0 → ⊥) → Standing t T (place_of s T g.table)

@@ -18,7 +18,11 @@ use Rattle.record.proofs.Laws.{whole}
 use Rattle.substream.specs.Substream.{kind_at}
 use Rattle.record_chain.specs.Chain.{here, on}
 use Rattle.moved_records.proofs.Moved.{num_moved}
-use Rattle.new_stream.specs.Entries.{Spot, Fate, stays, goes, table, text, sheet, Entry, fate_of, parts, level_after, spot_after, entries_from}
+use Rattle.new_stream.specs.declared.Spot.{Spot}
+use Rattle.new_stream.specs.declared.Fate.{Fate}
+use Rattle.new_stream.specs.declared.Entry.{Entry}
+use Rattle.new_stream.specs.declared.Fate.TheVariants.{Stays, Goes, Table, Text, Sheet}
+use Rattle.new_stream.specs.Entries.{fate_of, parts, level_after, spot_after, entries_from}
 use Rattle.new_stream.specs.Compact.{new_bytes}
 use Rattle.new_stream.specs.Parts.{Given, View}
 use Rattle.new_stream.proofs.Echoed.{Echoes, gone, part, kept, label, bound, tabled, Matches, Echo}
@@ -32,7 +36,7 @@ use Rattle.new_stream.proofs.Records.{fits, later, entries_by, kept_header, text
 pub fate_same : (x w : Spot) (ty : ℕ) → x.level ≡ w.level → x.kind ≡ w.kind → (ty ≡ 0x003C → x.gone ≡ w.gone) → fate_of x ty ≡ fate_of w ty
 unfolding fate_of
 fate_same x w ty l k g =
-    rw (l, k) (pick_same (eqb ty 0x003C) _ _ _ _ (λ i. ap (λ (b : Bool). pick b goes stays) (g (eqb-true ty 0x003C i))) (λ _. refl))
+    rw (l, k) (pick_same (eqb ty 0x003C) _ _ _ _ (λ i. ap (λ (b : Bool). pick b Goes Stays) (g (eqb-true ty 0x003C i))) (λ _. refl))
 
 level_after_lem : (a b ty : ℕ) → a ≡ b → level_after a ty ≡ level_after b ty
 level_after_lem a b ty h = ap (λ (n : ℕ). level_after n ty) h
@@ -42,9 +46,9 @@ module _ (m : Given) (w : Spot) (q ty z e : ℕ) (inside : w.level ≡ 0 → ⊥
   next = spot_after m.s w ty e
 
   -- it is gone
-  pub echo_gone : fate_of w ty ≡ goes → (ty ≡ 0x0809 → ⊥) → (ty ≡ 0x000A → ⊥) → Echo m next q → Echo m w q
+  pub echo_gone : fate_of w ty ≡ Goes → (ty ≡ 0x0809 → ⊥) → (ty ≡ 0x000A → ⊥) → Echo m next q → Echo m w q
   echo_gone i a b ec x mx =
-      subst (λ (l : List Entry). Echoes m q l (entries_from m.t x)) (sym (entries_by m w q ty z e inside v h goes i))
+      subst (λ (l : List Entry). Echoes m q l (entries_from m.t x)) (sym (entries_by m w q ty z e inside v h Goes i))
       (gone (ec x record {
         at = mx.at;
         level = mx.level ∙ sym (after_plain m.s w ty e a b);
@@ -78,12 +82,12 @@ module _ (m : Given) (w : Spot) (q ty z e : ℕ) (inside : w.level ≡ 0 → ⊥
     }
 
   -- it stays
-  pub echo_kept : fate_of w ty ≡ stays → (ty ≡ 0x003C → w.gone ≡ false) → Echo m next (q + (4 + z)) → Echo m w q
+  pub echo_kept : fate_of w ty ≡ Stays → (ty ≡ 0x003C → w.gone ≡ false) → Echo m next (q + (4 + z)) → Echo m w q
   echo_kept i cont ec x mx =
       let h₁ = kept_header m w q ty z e inside v h i in
-      subst (λ (l : List Entry). Echoes m q l (entries_from m.t x)) (sym (entries_by m w q ty z e inside v h stays i))
-      (subst (Echoes m q (record { at = w.at; size = 4 + z; fate = stays } ∷ entries_from m.s next)) (sym (entries_new (q + (4 + z)) h₁ stays i refl cont x mx))
-      (kept (omega arith) (ec (spot_after m.t x ty (q + (4 + z))) (matches_next (q + (4 + z)) h₁ stays i refl cont x mx))))
+      subst (λ (l : List Entry). Echoes m q l (entries_from m.t x)) (sym (entries_by m w q ty z e inside v h Stays i))
+      (subst (Echoes m q (record { at = w.at; size = 4 + z; fate = Stays } ∷ entries_from m.s next)) (sym (entries_new (q + (4 + z)) h₁ Stays i refl cont x mx))
+      (kept (omega arith) (ec (spot_after m.t x ty (q + (4 + z))) (matches_next (q + (4 + z)) h₁ Stays i refl cont x mx))))
 
   -- what is written of it stands in the new stream
   bytes_new : (f : Fate) → fate_of w ty ≡ f → length (new_bytes m.s m.T m.index m.place w.at (4 + z) f) ≡ 4 + z
@@ -94,32 +98,32 @@ module _ (m : Given) (w : Spot) (q ty z e : ℕ) (inside : w.level ≡ 0 → ⊥
       ∙ take_at (new_bytes m.s m.T m.index m.place w.at (4 + z) f) _ (4 + z) n
 
   old_size : length (bytes_at m.s w.at (4 + z)) ≡ 4 + z
-  old_size = new_size_lem m.s m.T m.index m.place w.at (4 + z) (fits m w q ty z e inside v h) stays
+  old_size = new_size_lem m.s m.T m.index m.place w.at (4 + z) (fits m w q ty z e inside v h) Stays
 
   -- it gets a new index
-  pub echo_text : fate_of w ty ≡ text → (ty ≡ 0x003C → ⊥) → 10 ≤ z → u32_at m.t (q + 10) ≡ m.index (u32_at m.s (w.at + 10)) → Echo m next (q + (4 + z)) → Echo m w q
+  pub echo_text : fate_of w ty ≡ Text → (ty ≡ 0x003C → ⊥) → 10 ≤ z → u32_at m.t (q + 10) ≡ m.index (u32_at m.s (w.at + 10)) → Echo m next (q + (4 + z)) → Echo m w q
   echo_text i c ten number ec x mx =
       let h₁ = text_header m w q ty z e inside v h i in
       let o = old_size in
-      subst (λ (l : List Entry). Echoes m q l (entries_from m.t x)) (sym (entries_by m w q ty z e inside v h text i))
-      (subst (Echoes m q (record { at = w.at; size = 4 + z; fate = text } ∷ entries_from m.s next)) (sym (entries_new (q + (4 + z)) h₁ text i refl (λ y. absurd (c y)) x mx))
+      subst (λ (l : List Entry). Echoes m q l (entries_from m.t x)) (sym (entries_by m w q ty z e inside v h Text i))
+      (subst (Echoes m q (record { at = w.at; size = 4 + z; fate = Text } ∷ entries_from m.s next)) (sym (entries_new (q + (4 + z)) h₁ Text i refl (λ y. absurd (c y)) x mx))
       (label (bytes_at m.s w.at (4 + z)) (omega arith) (omega arith)
-      (bytes_new text i (new_size_lem m.s m.T m.index m.place w.at (4 + z) (fits m w q ty z e inside v h) text)) number
-      (ec (spot_after m.t x ty (q + (4 + z))) (matches_next (q + (4 + z)) h₁ text i refl (λ y. absurd (c y)) x mx))))
+      (bytes_new Text i (new_size_lem m.s m.T m.index m.place w.at (4 + z) (fits m w q ty z e inside v h) Text)) number
+      (ec (spot_after m.t x ty (q + (4 + z))) (matches_next (q + (4 + z)) h₁ Text i refl (λ y. absurd (c y)) x mx))))
 
   -- it gets a new position
-  pub echo_sheet : fate_of w ty ≡ sheet → (ty ≡ 0x003C → ⊥) → 8 ≤ z → u32_at m.t (q + 4) ≡ m.place (u32_at m.s (w.at + 4)) → Echo m next (q + (4 + z)) → Echo m w q
+  pub echo_sheet : fate_of w ty ≡ Sheet → (ty ≡ 0x003C → ⊥) → 8 ≤ z → u32_at m.t (q + 4) ≡ m.place (u32_at m.s (w.at + 4)) → Echo m next (q + (4 + z)) → Echo m w q
   echo_sheet i c eight number ec x mx =
       let h₁ = bound_header m w q ty z e inside v h i in
       let o = old_size in
-      subst (λ (l : List Entry). Echoes m q l (entries_from m.t x)) (sym (entries_by m w q ty z e inside v h sheet i))
-      (subst (Echoes m q (record { at = w.at; size = 4 + z; fate = sheet } ∷ entries_from m.s next)) (sym (entries_new (q + (4 + z)) h₁ sheet i refl (λ y. absurd (c y)) x mx))
+      subst (λ (l : List Entry). Echoes m q l (entries_from m.t x)) (sym (entries_by m w q ty z e inside v h Sheet i))
+      (subst (Echoes m q (record { at = w.at; size = 4 + z; fate = Sheet } ∷ entries_from m.s next)) (sym (entries_new (q + (4 + z)) h₁ Sheet i refl (λ y. absurd (c y)) x mx))
       (bound (bytes_at m.s w.at (4 + z)) (omega arith) (omega arith)
-      (bytes_new sheet i (new_size_lem m.s m.T m.index m.place w.at (4 + z) (fits m w q ty z e inside v h) sheet)) number
-      (ec (spot_after m.t x ty (q + (4 + z))) (matches_next (q + (4 + z)) h₁ sheet i refl (λ y. absurd (c y)) x mx))))
+      (bytes_new Sheet i (new_size_lem m.s m.T m.index m.place w.at (4 + z) (fits m w q ty z e inside v h) Sheet)) number
+      (ec (spot_after m.t x ty (q + (4 + z))) (matches_next (q + (4 + z)) h₁ Sheet i refl (λ y. absurd (c y)) x mx))))
 
 -- ---- a BOF
-entries_opening : (s : List ℕ) (x : Spot) (e : ℕ) → header_at s x.at ≡ Record 0x0809 16 e → entries_from s x ≡ record { at = x.at; size = 20; fate = stays } ∷ entries_from s (spot_after s x 0x0809 e)
+entries_opening : (s : List ℕ) (x : Spot) (e : ℕ) → header_at s x.at ≡ Record 0x0809 16 e → entries_from s x ≡ record { at = x.at; size = 20; fate = Stays } ∷ entries_from s (spot_after s x 0x0809 e)
 entries_opening s x e h = by (eqb x.level 0) refl ∙ ap (λ (f : Fate). record { at = x.at; size = 20; fate = f } ∷ entries_from s (spot_after s x 0x0809 e)) (marks_stay x 0x0809 (inl refl))
   where
     by : (b : Bool) → eqb x.level 0 ≡ b → entries_from s x ≡ record { at = x.at; size = 20; fate = fate_of x 0x0809 } ∷ entries_from s (spot_after s x 0x0809 e)
@@ -129,8 +133,8 @@ entries_opening s x e h = by (eqb x.level 0) refl ∙ ap (λ (f : Fate). record 
 pub echo_bof : (m : Given) (w : Spot) (q : ℕ) (v : View m w q) (h : header_at m.s w.at ≡ Record 0x0809 16 (w.at + 20)) → header_at m.t q ≡ Record 0x0809 16 (q + 20) → Echo m (opened_at m w) (q + 20) → Echo m w q
 echo_bof m w q v h h₁ ec x mx =
     subst (λ (l : List Entry). Echoes m q l (entries_from m.t x)) (sym (entries_opening m.s w (w.at + 20) h))
-    (subst (Echoes m q (record { at = w.at; size = 20; fate = stays } ∷ entries_from m.s (opened_at m w)))
-    (sym (entries_opening m.t x (q + 20) (ap (header_at m.t) mx.at ∙ h₁) ∙ ap (λ (n : ℕ). record { at = n; size = 20; fate = stays } ∷ entries_from m.t (spot_after m.t x 0x0809 (q + 20))) mx.at))
+    (subst (Echoes m q (record { at = w.at; size = 20; fate = Stays } ∷ entries_from m.s (opened_at m w)))
+    (sym (entries_opening m.t x (q + 20) (ap (header_at m.t) mx.at ∙ h₁) ∙ ap (λ (n : ℕ). record { at = n; size = 20; fate = Stays } ∷ entries_from m.t (spot_after m.t x 0x0809 (q + 20))) mx.at))
     (kept (omega arith) (ec (spot_after m.t x 0x0809 (q + 20)) record {
       at = after_at m.t x 0x0809 (q + 20);
       level = after_bof m.t x 0x0809 (q + 20) refl ∙ ap (λ (n : ℕ). n + 1) mx.level ∙ sym (after_bof m.s w 0x0809 (w.at + 20) refl);
@@ -152,7 +156,7 @@ pub row_low : (t : List ℕ) {a b : ℕ} → Row t a b → a ≤ b
 row_low t here = omega arith
 row_low t (on {x = x} {e = e} {y = y} h r) = let w = whole t x 0x003C h.size e h.is in let l = row_low t r in omega arith
 
-pub continue_goes : (w : Spot) → w.gone ≡ true → fate_of w 0x003C ≡ goes
+pub continue_goes : (w : Spot) → w.gone ≡ true → fate_of w 0x003C ≡ Goes
 unfolding fate_of pick
 continue_goes w g = rw g refl
 
@@ -170,14 +174,14 @@ row_parts m q b l L K some low x a i j k g (on {e = e} h r) f =
     (row_parts m q b l L K some low (spot_after m.t x 0x003C e) e (after_at m.t x 0x003C e) (after_plain m.t x 0x003C e (λ y. omega arith) (λ y. omega arith) ∙ j) (after_kind m.t x 0x003C e deep ∙ k)
     (after_gone m.t x 0x003C e ∙ ap parts (continue_goes x g)) r f))
 
-pub echo_table : (m : Given) (w : Spot) (q z e n : ℕ) (inside : w.level ≡ 0 → ⊥) (v : View m w q) (h : header_at m.s w.at ≡ Record 0x00FC z e) → fate_of w 0x00FC ≡ table
+pub echo_table : (m : Given) (w : Spot) (q z e n : ℕ) (inside : w.level ≡ 0 → ⊥) (v : View m w q) (h : header_at m.s w.at ≡ Record 0x00FC z e) → fate_of w 0x00FC ≡ Table
     → 0 < length m.T → Standing m.t m.T q → (at : TableAt m.t q (length m.T) n) → Row m.t (q + 4 + at.body) (q + length m.T)
     → ((y : Spot) → y.at ≡ q + length m.T → y.level ≡ w.level → y.kind ≡ w.kind → Echoes m (q + length m.T) (entries_from m.s (spot_after m.s w 0x00FC e)) (entries_from m.t y)) → Echo m w q
 echo_table m w q z e n inside v h i some st at row ec x mx =
     let deep : x.level ≡ 0 → ⊥ = λ y. inside (sym mx.level ∙ y) in
-    let fate : fate_of x 0x00FC ≡ table = fate_same x w 0x00FC mx.level mx.kind (λ c. absurd (omega arith)) ∙ i in
-    subst (λ (l : List Entry). Echoes m q l (entries_from m.t x)) (sym (entries_by m w q 0x00FC z e inside v h table i))
-    (subst (Echoes m q (record { at = w.at; size = 4 + z; fate = table } ∷ entries_from m.s (spot_after m.s w 0x00FC e)))
+    let fate : fate_of x 0x00FC ≡ Table = fate_same x w 0x00FC mx.level mx.kind (λ c. absurd (omega arith)) ∙ i in
+    subst (λ (l : List Entry). Echoes m q l (entries_from m.t x)) (sym (entries_by m w q 0x00FC z e inside v h Table i))
+    (subst (Echoes m q (record { at = w.at; size = 4 + z; fate = Table } ∷ entries_from m.s (spot_after m.s w 0x00FC e)))
     (sym (entries_record m.t x 0x00FC at.body (q + 4 + at.body) (ap (header_at m.t) mx.at ∙ at.header) deep
     ∙ ap₂ (λ (n : ℕ) (f : Fate). record { at = n; size = 4 + at.body; fate = f } ∷ entries_from m.t (spot_after m.t x 0x00FC (q + 4 + at.body))) mx.at fate))
     (tabled st.rest some st.is

@@ -13,7 +13,9 @@ use Rattle.record.specs.declared.Header.{Header}
 use Rattle.record.specs.declared.Header.TheVariants.{Record, Cut, End}
 use Rattle.record.specs.Record.{header_at}
 use Rattle.record.proofs.Laws.{whole}
-use Rattle.new_stream.specs.Entries.{Spot, Entry, fate_of, spot_after, record_item, rest_item, on_header, entry_item, entries_from}
+use Rattle.new_stream.specs.declared.Spot.{Spot}
+use Rattle.new_stream.specs.declared.Entry.{Entry}
+use Rattle.new_stream.specs.Entries.{fate_of, spot_after, record_item, rest_item, on_header, entry_item, entries_from}
 
 -- the first entry stands at p
 abbrev pub Begins : ℕ → List Entry → Type 0

@@ -7,10 +7,11 @@ use mathlib.Core.Logic.{◌⊎◌, inl, inr}
 use native.Mathlib.Omega.{arith}
 use lib.Dec.{eqb}
 use borrow.Author.Tests.{eqb-true, eqb-false}
+use Rattle.std.specs.Prelude.{Option, Some, None, Result, Ok, Err}
+use Rattle.refusal.specs.declared.Refusal.{Refusal}
+use Rattle.refusal.specs.Refused.{refuse}
 use Rattle.steps.specs.Choice.{pick}
 use Rattle.steps.proofs.Choice.{never, pick_any, pick_by, pick_eq, pick_ne, pick_false, pick_same}
-use Rattle.cell.specs.declared.Judged.{Judged}
-use Rattle.cell.specs.declared.Judged.TheVariants as judged
 use Rattle.cell.specs.declared.Shape.{Shape}
 use Rattle.cell.specs.declared.Shape.TheVariants.{LABELSST, FORMULA, OTHER}
 use Rattle.cell.specs.Cells.{shape_of, judged as judged_at, judge_of}
@@ -20,9 +21,12 @@ use Rattle.text_result.specs.TextResult.{has_text, text_of}
 use Rattle.reading.proofs.Texts.{has_formula}
 use Rattle.substream.specs.declared.Here.{Here}
 use Rattle.substream.specs.declared.Step.{Step}
-use Rattle.substream.specs.declared.Step.TheVariants.{More, Open, Close, Stop}
+use Rattle.substream.specs.declared.Step.TheVariants.{More, Open, Close}
 use Rattle.substream.specs.Substream.{past, past_parent, kind_at, inner_bof, other_record, dimensions_record, on_text, passed_record, on_judged, record_in}
-use Rattle.new_stream.specs.Entries.{Spot, Fate, stays, goes, table, text, sheet, in_globals, in_later, fate_of, parts, level_after, spot_after}
+use Rattle.new_stream.specs.declared.Spot.{Spot}
+use Rattle.new_stream.specs.declared.Fate.{Fate}
+use Rattle.new_stream.specs.declared.Fate.TheVariants.{Stays, Goes, Table, Text, Sheet}
+use Rattle.new_stream.specs.Entries.{in_globals, in_later, fate_of, parts, level_after, spot_after}
 
 -- ---- after a record
 module _ (s : List ℕ) (w : Spot) (t e : ℕ) where
@@ -56,11 +60,11 @@ module _ (s : List ℕ) (w : Spot) (t e : ℕ) where
 
 -- ---- of a record directly in a substream of kind k after the globals
 abbrev pub Turns : Spot → ℕ → ℕ → Fate → Type 0
-Turns w k t stays = (t ≡ 0x003C → w.gone ≡ false) × (k ≡ 0x0010 → t ≡ 0x00FD → ⊥)
-Turns w k t goes = (t ≡ 0x003C) ⊎ (t ≡ 0x020B)
-Turns w k t table = ⊥
-Turns w k t text = (k ≡ 0x0010) × (t ≡ 0x00FD)
-Turns w k t sheet = ⊥
+Turns w k t Stays = (t ≡ 0x003C → w.gone ≡ false) × (k ≡ 0x0010 → t ≡ 0x00FD → ⊥)
+Turns w k t Goes = (t ≡ 0x003C) ⊎ (t ≡ 0x020B)
+Turns w k t Table = ⊥
+Turns w k t Text = (k ≡ 0x0010) × (t ≡ 0x00FD)
+Turns w k t Sheet = ⊥
 
 pub turns : (w : Spot) (k t : ℕ) → (w.level ≡ 1 → w.kind ≡ k) → ((w.level ≡ 1 → ⊥) → k ≡ 0x0020) → (k ≡ 0x0005 → ⊥) → Turns w k t (fate_of w t)
 unfolding fate_of in_later
@@ -85,45 +89,45 @@ unfolding shape_of pick
 label_cell h = never (cc)
 
 -- a BOF and an EOF stay
-pub marks_stay : (w : Spot) (t : ℕ) → (t ≡ 0x0809) ⊎ (t ≡ 0x000A) → fate_of w t ≡ stays
+pub marks_stay : (w : Spot) (t : ℕ) → (t ≡ 0x0809) ⊎ (t ≡ 0x000A) → fate_of w t ≡ Stays
 unfolding fate_of in_globals in_later pick
 marks_stay w t (inl h) =
-    rw h (pick_any (λ (f : Fate). f ≡ stays) (eqb w.level 1) (pick_any (λ (f : Fate). f ≡ stays) (eqb w.kind 0x0005) refl (pick_any (λ (f : Fate). f ≡ stays) (eqb w.kind 0x0010) refl refl)) refl)
+    rw h (pick_any (λ (f : Fate). f ≡ Stays) (eqb w.level 1) (pick_any (λ (f : Fate). f ≡ Stays) (eqb w.kind 0x0005) refl (pick_any (λ (f : Fate). f ≡ Stays) (eqb w.kind 0x0010) refl refl)) refl)
 marks_stay w t (inr h) =
-    rw h (pick_any (λ (f : Fate). f ≡ stays) (eqb w.level 1) (pick_any (λ (f : Fate). f ≡ stays) (eqb w.kind 0x0005) refl (pick_any (λ (f : Fate). f ≡ stays) (eqb w.kind 0x0010) refl refl)) refl)
+    rw h (pick_any (λ (f : Fate). f ≡ Stays) (eqb w.level 1) (pick_any (λ (f : Fate). f ≡ Stays) (eqb w.kind 0x0005) refl (pick_any (λ (f : Fate). f ≡ Stays) (eqb w.kind 0x0010) refl refl)) refl)
 
 -- a record that holds no cell and is no INDEX stays in a worksheet, unless it is a CONTINUE of one that is gone
-pub plain_stays : (w : Spot) (t : ℕ) → w.gone ≡ false → (w.level ≡ 1 → w.kind ≡ 0x0010) → shape_of t ≡ OTHER → (t ≡ 0x020B → ⊥) → fate_of w t ≡ stays
+pub plain_stays : (w : Spot) (t : ℕ) → w.gone ≡ false → (w.level ≡ 1 → w.kind ≡ 0x0010) → shape_of t ≡ OTHER → (t ≡ 0x020B → ⊥) → fate_of w t ≡ Stays
 unfolding fate_of in_later
 plain_stays w t g worksheet other index =
-    pick_by Stays (eqb t 0x003C) (λ _. sym (pick_false stays _ _ w.gone g refl))
-    (λ _. pick_by Stays (eqb w.level 1)
-    (λ l. let k = worksheet (eqb-true w.level 1 l) in pick_by Stays (eqb w.kind 0x0005) (λ j. absurd (let i = eqb-true w.kind 0x0005 j in omega arith))
-    (λ _. pick_by Stays (eqb t 0x020B) (λ j. absurd (index (eqb-true t 0x020B j)))
-    (λ _. pick_any Stays (eqb w.kind 0x0010) (pick_by Stays (eqb t 0x00FD) (λ j. absurd (no_label (eqb-true t 0x00FD j))) (λ _. refl)) refl)))
+    pick_by Kept (eqb t 0x003C) (λ _. sym (pick_false Stays _ _ w.gone g refl))
+    (λ _. pick_by Kept (eqb w.level 1)
+    (λ l. let k = worksheet (eqb-true w.level 1 l) in pick_by Kept (eqb w.kind 0x0005) (λ j. absurd (let i = eqb-true w.kind 0x0005 j in omega arith))
+    (λ _. pick_by Kept (eqb t 0x020B) (λ j. absurd (index (eqb-true t 0x020B j)))
+    (λ _. pick_any Kept (eqb w.kind 0x0010) (pick_by Kept (eqb t 0x00FD) (λ j. absurd (no_label (eqb-true t 0x00FD j))) (λ _. refl)) refl)))
     (λ _. refl))
   where
-    Stays : Fate → Type 0
-    Stays f = f ≡ stays
+    Kept : Fate → Type 0
+    Kept f = f ≡ Stays
 
     no_label : t ≡ 0x00FD → ⊥
     no_label i = label_cell (sym (ap shape_of i) ∙ other)
 
 -- ---- a cell record of its kind is judged
-abbrev Told : Judged → Type 0
-Told (judged.Passed n) = Unit {0}
-Told (judged.Refused n o) = Unit {0}
-Told judged.Other = ⊥
+abbrev Told : Result (Option ℕ) Refusal → Type 0
+Told (Ok (Some n)) = Unit {0}
+Told (Err r) = Unit {0}
+Told (Ok None) = ⊥
 
 judged_told : (s : List ℕ) (h : Shape) (p z u : ℕ) → Told (judged_at s h p z u)
 unfolding judged_at
 judged_told s h p z u = pick_any Told _ tt (pick_any Told _ tt (pick_any Told _ (pick_any Told _ tt tt) tt))
 
-pub label_told : (s : List ℕ) (p z u : ℕ) → judge_of s LABELSST p z u ≡ judged.Other → ⊥
+pub label_told : (s : List ℕ) (p z u : ℕ) → judge_of s LABELSST p z u ≡ (Ok None) → ⊥
 unfolding judge_of pick
 label_told s p z u h = subst Told h (judged_told s LABELSST p z u)
 
-formula_told : (s : List ℕ) (p z u : ℕ) → judge_of s FORMULA p z u ≡ judged.Other → ⊥
+formula_told : (s : List ℕ) (p z u : ℕ) → judge_of s FORMULA p z u ≡ (Ok None) → ⊥
 unfolding judge_of pick
 formula_told s p z u h = subst Told h (judged_told s FORMULA p z u)
 
@@ -131,25 +135,25 @@ formula_told s p z u h = subst Told h (judged_told s FORMULA p z u)
 module _ (s : List ℕ) (k u : ℕ) (v : Here) (t z e : ℕ) where
   pub bof_step : t ≡ 0x0809 → record_in s k u v t z e ≡ inner_bof s k v.at z
   unfolding record_in other_record judge_of shape_of pick
-  bof_step h = rw h (pick_any (λ (x : Step). x ≡ inner_bof s k v.at z) (eqb k 0x0010) refl refl)
+  bof_step h = rw h (pick_any (λ (x : Result Step Refusal). x ≡ inner_bof s k v.at z) (eqb k 0x0010) refl refl)
 
-  pub eof_step : t ≡ 0x000A → record_in s k u v t z e ≡ pick (eqb z 0) (Close e) (Stop 6 v.at)
+  pub eof_step : t ≡ 0x000A → record_in s k u v t z e ≡ pick (eqb z 0) (Ok (Close e)) (refuse 6 v.at)
   unfolding record_in other_record judge_of shape_of pick
-  eof_step h = rw h (pick_any (λ (x : Step). x ≡ pick (eqb z 0) (Close e) (Stop 6 v.at)) (eqb k 0x0010) refl refl)
+  eof_step h = rw h (pick_any (λ (x : Result Step Refusal). x ≡ pick (eqb z 0) (Ok (Close e)) (refuse 6 v.at)) (eqb k 0x0010) refl refl)
 
-  pub continue_step : t ≡ 0x003C → record_in s k u v t z e ≡ pick v.orphan (Stop 7 v.at) (More (past e))
+  pub continue_step : t ≡ 0x003C → record_in s k u v t z e ≡ pick v.orphan (refuse 7 v.at) (Ok (More (past e)))
   unfolding record_in other_record judge_of shape_of pick
-  continue_step h = rw h (pick_any (λ (x : Step). x ≡ pick v.orphan (Stop 7 v.at) (More (past e))) (eqb k 0x0010) refl refl)
+  continue_step h = rw h (pick_any (λ (x : Result Step Refusal). x ≡ pick v.orphan (refuse 7 v.at) (Ok (More (past e)))) (eqb k 0x0010) refl refl)
 
-  pub index_step : t ≡ 0x020B → record_in s k u v t z e ≡ More (past e)
+  pub index_step : t ≡ 0x020B → record_in s k u v t z e ≡ Ok (More (past e))
   unfolding record_in other_record judge_of shape_of pick
-  index_step h = rw h (pick_any (λ (x : Step). x ≡ More (past e)) (eqb k 0x0010) refl refl)
+  index_step h = rw h (pick_any (λ (x : Result Step Refusal). x ≡ Ok (More (past e))) (eqb k 0x0010) refl refl)
 
   pub label_step : k ≡ 0x0010 → t ≡ 0x00FD → record_in s k u v t z e ≡ on_judged s k v t z e (judge_of s LABELSST v.at z u)
   unfolding record_in shape_of pick
   label_step i h = rw (i, h) refl
 
-  pub label_past : t ≡ 0x00FD → passed_record s v.at t e ≡ More (past_parent e)
+  pub label_past : t ≡ 0x00FD → passed_record s v.at t e ≡ Ok (More (past_parent e))
   unfolding passed_record has_text pick
   label_past h = rw h refl
 
@@ -158,11 +162,11 @@ module _ (s : List ℕ) (k u : ℕ) (v : Here) (t z e : ℕ) where
   formula_step i h = rw (i, h) refl
 
   -- any other record is passed over, or refused; unless it is a FORMULA with a text result that is read
-  abbrev pub Plain : Step → Type 0
-  Plain (More y) = y.at ≡ e
-  Plain (Open b) = ⊥
-  Plain (Close f) = ⊥
-  Plain (Stop n o) = Unit {0}
+  abbrev pub Plain : Result Step Refusal → Type 0
+  Plain (Ok (More y)) = y.at ≡ e
+  Plain (Ok (Open b)) = ⊥
+  Plain (Ok (Close f)) = ⊥
+  Plain (Err r) = Unit {0}
 
   pub plain_step : (t ≡ 0x0809 → ⊥) → (t ≡ 0x000A → ⊥) → (k ≡ 0x0010 → has_text s t v.at ≡ false) → Plain (record_in s k u v t z e)
   unfolding record_in dimensions_record other_record passed_record
@@ -171,10 +175,10 @@ module _ (s : List ℕ) (k u : ℕ) (v : Here) (t z e : ℕ) where
       other : Plain (other_record s k v t z e)
       other = pick_by Plain (eqb t 0x0809) (λ i. absurd (a (eqb-true t 0x0809 i))) (λ _. pick_by Plain (eqb t 0x000A) (λ i. absurd (b (eqb-true t 0x000A i))) (λ _. pick_any Plain _ (pick_any Plain _ tt refl) refl))
 
-      on_judged_lem : has_text s t v.at ≡ false → (x : Judged) → Plain (on_judged s k v t z e x)
-      on_judged_lem n (judged.Passed m) = pick_by Plain (has_text s t v.at) (λ i. never (cc)) (λ _. refl)
-      on_judged_lem n (judged.Refused m o) = tt
-      on_judged_lem n judged.Other = pick_any Plain _ (pick_any Plain _ refl tt) (pick_any Plain _ tt other)
+      on_judged_lem : has_text s t v.at ≡ false → (x : Result (Option ℕ) Refusal) → Plain (on_judged s k v t z e x)
+      on_judged_lem n (Ok (Some m)) = pick_by Plain (has_text s t v.at) (λ i. never (cc)) (λ _. refl)
+      on_judged_lem n (Err r) = tt
+      on_judged_lem n (Ok None) = pick_any Plain _ (pick_any Plain _ refl tt) (pick_any Plain _ tt other)
 
   -- a FORMULA with a text result that is read: past that, or refused
   pub record PastText (y : Here) : Type 0 where
@@ -183,21 +187,21 @@ module _ (s : List ℕ) (k u : ℕ) (v : Here) (t z e : ℕ) where
     pub is : text_of s v.at e ≡ got units last
     pub past : y ≡ past last.end
 
-  abbrev pub Grouped : Step → Type 0
-  Grouped (More y) = PastText y
-  Grouped (Open b) = ⊥
-  Grouped (Close f) = ⊥
-  Grouped (Stop n o) = Unit {0}
+  abbrev pub Grouped : Result Step Refusal → Type 0
+  Grouped (Ok (More y)) = PastText y
+  Grouped (Ok (Open b)) = ⊥
+  Grouped (Ok (Close f)) = ⊥
+  Grouped (Err r) = Unit {0}
 
   grouped_text : (x : Got (List ℕ)) → text_of s v.at e ≡ x → Grouped (on_text x)
   grouped_text (got us d) i = record { units = us; last = d; is = i; past = refl }
   grouped_text (refused n o) i = tt
 
-  grouped_judged : has_text s t v.at ≡ true → (x : Judged) → judge_of s FORMULA v.at z u ≡ x → Grouped (on_judged s k v t z e x)
+  grouped_judged : has_text s t v.at ≡ true → (x : Result (Option ℕ) Refusal) → judge_of s FORMULA v.at z u ≡ x → Grouped (on_judged s k v t z e x)
   unfolding passed_record
-  grouped_judged h (judged.Passed n) i = pick_by Grouped (has_text s t v.at) (λ _. grouped_text (text_of s v.at e) refl) (λ j. never (cc))
-  grouped_judged h (judged.Refused n o) i = tt
-  grouped_judged h judged.Other i = absurd (formula_told s v.at z u i)
+  grouped_judged h (Ok (Some n)) i = pick_by Grouped (has_text s t v.at) (λ _. grouped_text (text_of s v.at e) refl) (λ j. never (cc))
+  grouped_judged h (Err r) i = tt
+  grouped_judged h (Ok None) i = absurd (formula_told s v.at z u i)
 
   pub group_step : k ≡ 0x0010 → has_text s t v.at ≡ true → Grouped (record_in s k u v t z e)
   group_step i h = subst Grouped (sym (formula_step i (has_formula s t v.at h))) (grouped_judged h (judge_of s FORMULA v.at z u) refl)
@@ -210,7 +214,7 @@ orphan_blind s k u at o o' t z e n = pick_same (eqb k 0x0010) _ _ _ _ (λ _. on_
     other : other_record s k (record { at = at; orphan = o }) t z e ≡ other_record s k (record { at = at; orphan = o' }) t z e
     other = pick_same (eqb t 0x0809) _ _ _ _ (λ _. refl) (λ _. pick_same (eqb t 0x000A) _ _ _ _ (λ _. refl) (λ _. pick_same (eqb t 0x003C) _ _ _ _ (λ i. absurd (n (eqb-true t 0x003C i))) (λ _. refl)))
 
-    on_judged_lem : (x : Judged) → on_judged s k (record { at = at; orphan = o }) t z e x ≡ on_judged s k (record { at = at; orphan = o' }) t z e x
-    on_judged_lem (judged.Passed m) = refl
-    on_judged_lem (judged.Refused m i) = refl
-    on_judged_lem judged.Other = pick_same (eqb t 0x0200) _ _ _ _ (λ _. refl) (λ _. pick_same (eqb t 0x0207) _ _ _ _ (λ _. refl) (λ _. other))
+    on_judged_lem : (x : Result (Option ℕ) Refusal) → on_judged s k (record { at = at; orphan = o }) t z e x ≡ on_judged s k (record { at = at; orphan = o' }) t z e x
+    on_judged_lem (Ok (Some m)) = refl
+    on_judged_lem (Err r) = refl
+    on_judged_lem (Ok None) = pick_same (eqb t 0x0200) _ _ _ _ (λ _. refl) (λ _. pick_same (eqb t 0x0207) _ _ _ _ (λ _. refl) (λ _. other))

@@ -9,6 +9,9 @@ use lib.ListN.{get_or, drop}
 use lib.Dec.{eqb, ltb}
 use lib.Seq.{get_or-drop}
 use borrow.Author.Tests.{eqb-true, eqb-false, ltb-false}
+use Rattle.std.specs.Prelude.{Result, Ok, Err}
+use Rattle.refusal.specs.declared.Refusal.{Refusal}
+use Rattle.refusal.specs.Refused.{refuse}
 use Rattle.steps.specs.Choice.{pick}
 use Rattle.steps.proofs.Choice.{never, pick_by, pick_eq, pick_ne, pick_nlt, pick_same}
 use Rattle.byte_numbers.specs.Bytes.{byte_at, u32_at}
@@ -16,22 +19,25 @@ use Rattle.record.specs.declared.Header.TheVariants.{Record}
 use Rattle.record.specs.Record.{header_at}
 use Rattle.globals.specs.declared.Globals.{Globals}
 use Rattle.globals.specs.declared.Step.{Step}
-use Rattle.globals.specs.declared.Step.TheVariants.{More, Close, Stop}
+use Rattle.globals.specs.declared.Step.TheVariants.{More, Close}
 use Rattle.globals.specs.declared.Bound.TheVariants as bound
 use Rattle.globals.specs.Globals.{past, boundsheet_fits, boundsheet_record, sst_record, bof_record, eof_record, continue_record, record_in}
 use Rattle.globals.specs.Sheets.{type_kind, sheet_at, on_bound, bound_at, sheets_from}
 use Rattle.globals.proofs.Sheets.{sheets_done, sheets_skip, sheets_more}
 use Rattle.record_chain.specs.Chain.{here, on}
-use Rattle.new_stream.specs.Entries.{Spot, Fate, stays, goes, table, text, sheet, in_globals, fate_of}
+use Rattle.new_stream.specs.declared.Spot.{Spot}
+use Rattle.new_stream.specs.declared.Fate.{Fate}
+use Rattle.new_stream.specs.declared.Fate.TheVariants.{Stays, Goes, Table, Text, Sheet}
+use Rattle.new_stream.specs.Entries.{in_globals, fate_of}
 use Rattle.new_stream.specs.Claims.{Row}
 
 -- ---- what becomes of it
 abbrev pub Turns : Spot → ℕ → Fate → Type 0
-Turns w t stays = (t ≡ 0x003C → w.gone ≡ false) × (t ≡ 0x0085 → ⊥) × (t ≡ 0x00FC → ⊥)
-Turns w t goes = (t ≡ 0x003C) ⊎ (t ≡ 0x00FF)
-Turns w t table = t ≡ 0x00FC
-Turns w t text = ⊥
-Turns w t sheet = t ≡ 0x0085
+Turns w t Stays = (t ≡ 0x003C → w.gone ≡ false) × (t ≡ 0x0085 → ⊥) × (t ≡ 0x00FC → ⊥)
+Turns w t Goes = (t ≡ 0x003C) ⊎ (t ≡ 0x00FF)
+Turns w t Table = t ≡ 0x00FC
+Turns w t Text = ⊥
+Turns w t Sheet = t ≡ 0x0085
 
 pub turns : (w : Spot) (t : ℕ) → w.level ≡ 1 → w.kind ≡ 0x0005 → Turns w t (fate_of w t)
 unfolding fate_of in_globals
@@ -61,7 +67,7 @@ module _ (s : List ℕ) (v : Globals) (t z e : ℕ) where
   unfolding record_in pick
   eof_step h = rw h refl
 
-  pub extsst_step : t ≡ 0x00FF → record_in s v t z e ≡ More (past v false e)
+  pub extsst_step : t ≡ 0x00FF → record_in s v t z e ≡ Ok (More (past v false e))
   unfolding record_in pick
   extsst_step h = rw h refl
 
@@ -77,10 +83,10 @@ pick_two R false f g = g refl
 
 -- any other is passed over, or refused: in another stream too
 module _ (s s' : List ℕ) (v v' : Globals) (t z e e' : ℕ) where
-  abbrev pub Both : Step → Step → Type 0
-  Both (More w) x = (w ≡ past v false e) × (x ≡ More (past v' false e'))
-  Both (Close w) x = ⊥
-  Both (Stop n o) x = Unit {0}
+  abbrev pub Both : Result Step Refusal → Result Step Refusal → Type 0
+  Both (Ok (More w)) x = (w ≡ past v false e) × (x ≡ Ok (More (past v' false e')))
+  Both (Ok (Close w)) x = ⊥
+  Both (Err r) x = Unit {0}
 
   pub plain_both : (t ≡ 0x0085 → ⊥) → (t ≡ 0x00FC → ⊥) → (t ≡ 0x000A → ⊥) → (t ≡ 0x003C → v.orphan ≡ v'.orphan) → Both (record_in s v t z e) (record_in s' v' t z e')
   unfolding record_in bof_record continue_record
@@ -91,19 +97,19 @@ module _ (s s' : List ℕ) (v v' : Globals) (t z e e' : ℕ) where
       (λ _. pick_two Both (eqb t 0x0809) (λ _. pick_two Both (eqb z 16) (λ _. tt) (λ _. tt))
       (λ _. pick_two Both (eqb t 0x000A) (λ i. absurd (c (eqb-true t 0x000A i)))
       (λ _. pick_two Both (eqb t 0x003C)
-      (λ i. subst (λ (b : Bool). Both (pick v.orphan (Stop 7 v.at) (More (past v false e))) (pick b (Stop 7 v'.at) (More (past v' false e')))) (o (eqb-true t 0x003C i)) (pick_two Both v.orphan (λ _. tt) (λ _. (refl, refl))))
+      (λ i. subst (λ (b : Bool). Both (pick v.orphan (refuse 7 v.at) (Ok (More (past v false e)))) (pick b (refuse 7 v'.at) (Ok (More (past v' false e'))))) (o (eqb-true t 0x003C i)) (pick_two Both v.orphan (λ _. tt) (λ _. (refl, refl))))
       (λ _. (refl, refl)))))))
 
 -- no BOF is passed over
-bof_refused : (s : List ℕ) (v : Globals) (t z e : ℕ) (w : Globals) → t ≡ 0x0809 → record_in s v t z e ≡ More w → ◌≡◌ {A = ℕ} 0 1
+bof_refused : (s : List ℕ) (v : Globals) (t z e : ℕ) (w : Globals) → t ≡ 0x0809 → record_in s v t z e ≡ Ok (More w) → ◌≡◌ {A = ℕ} 0 1
 unfolding record_in bof_record pick
 bof_refused s v t z e w c h = by (eqb z 16) (sym (rw c refl) ∙ h)
   where
-    by : (b : Bool) → pick b (Stop 4 v.at) (Stop 6 v.at) ≡ More w → ◌≡◌ {A = ℕ} 0 1
+    by : (b : Bool) → pick b (refuse 4 v.at) (refuse 6 v.at) ≡ Ok (More w) → ◌≡◌ {A = ℕ} 0 1
     by true i = cc
     by false i = cc
 
-pub bof_not : (s : List ℕ) (v : Globals) (t z e : ℕ) (w : Globals) → record_in s v t z e ≡ More w → t ≡ 0x0809 → ⊥
+pub bof_not : (s : List ℕ) (v : Globals) (t z e : ℕ) (w : Globals) → record_in s v t z e ≡ Ok (More w) → t ≡ 0x0809 → ⊥
 bof_not s v t z e w h c = let x = bof_refused s v t z e w c h in omega arith
 
 -- ---- the sheets
@@ -118,7 +124,7 @@ module _ (s : List ℕ) (p t z e : ℕ) (h : header_at s p ≡ Record t z e) whe
 
   pub some_sheets : t ≡ 0x0085 → 8 ≤ z → sheets_from s p ≡ record { header = p; position = u32_at s (p + 4); kind = type_kind (byte_at s (p + 9)) } ∷ sheets_from s e
   unfolding bound_at sheet_at
-  some_sheets a l = sheets_more s p (bound.Sheet p (u32_at s (p + 4)) (type_kind (byte_at s (p + 9))) e) (pick_eq _ _ _ t 0x0085 a (pick_nlt _ _ _ z 8 l refl) ∙ sym (ap (on_bound s p) h)) p (u32_at s (p + 4)) (type_kind (byte_at s (p + 9))) e refl
+  some_sheets a l = sheets_more s p (bound.Sheet (sheet_at s p e)) (pick_eq _ _ _ t 0x0085 a (pick_nlt _ _ _ z 8 l refl) ∙ sym (ap (on_bound s p) h)) (sheet_at s p e) refl
 
 -- over CONTINUEs
 pub row_sheets : (s : List ℕ) {x y : ℕ} → Row s x y → sheets_from s x ≡ sheets_from s y

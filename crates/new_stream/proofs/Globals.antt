@@ -1,6 +1,6 @@
 -- The globals pass in the new stream, with the new string table, and declare the same sheets. Assumes nothing.
 use Prim.Native.Nat.{ℕ, zero, suc, ◌+◌, ◌-◌, ◌^◌, ◌≤◌, ◌<◌}
-use mathlib.Core.Path.{◌≡◌, refl, sym, ap, ap₂, ◌∙◌, subst}
+use mathlib.Core.Path.{◌≡◌, refl, sym, ap, ◌∙◌, subst}
 use mathlib.Core.List.{List, ◌∷◌, map}
 use mathlib.Core.Bool.{Bool, true, false}
 use mathlib.Core.Logic.{◌⊎◌, inl, inr}
@@ -9,6 +9,9 @@ use lib.ListN.{length, get_or, drop}
 use lib.Seq.{get_or-drop}
 use lib.Dec.{eqb}
 use borrow.Author.Tests.{eqb-true, eqb-false}
+use Rattle.std.specs.Prelude.{Result, Ok, Err}
+use Rattle.refusal.specs.declared.Refusal.{Refusal}
+use Rattle.refusal.specs.Refused.{refuse}
 use Rattle.steps.specs.Choice.{pick}
 use Rattle.steps.proofs.Choice.{never, pick_eq}
 use Rattle.steps.proofs.Walk.{run_more, run_stop}
@@ -18,20 +21,23 @@ use Rattle.record.specs.declared.Header.TheVariants.{Record, Cut, End}
 use Rattle.record.specs.Record.{header_at}
 use Rattle.record.proofs.Laws.{whole}
 use Rattle.segments.specs.Segments.{continues}
-use Rattle.strings.specs.declared.Strings.{Strings}
-use Rattle.strings.specs.declared.Strings.TheVariants as strings
+use Rattle.strings.specs.declared.Table as strings
 use Rattle.strings.specs.Table.{table_of, answer_of}
+use Rattle.sheet_agreement.specs.declared.SheetKind.{SheetKind}
 use Rattle.sheet_agreement.specs.Agreement.{Sheet}
 use Rattle.globals.specs.declared.Globals.{Globals}
 use Rattle.globals.specs.declared.Step.{Step}
-use Rattle.globals.specs.declared.Step.TheVariants.{More, Close, Stop}
-use Rattle.globals.specs.declared.Ended.TheVariants.{At, Refused}
+use Rattle.globals.specs.declared.Step.TheVariants.{More, Close}
 use Rattle.globals.specs.Globals.{past, past_table, boundsheet_fits, boundsheet_record, on_table, sst_record, eof_record, continue_record, record_in, on_header, step_of, turn, records_from}
 use Rattle.globals.specs.Sheets.{type_kind, sheets_from}
 use Rattle.globals.proofs.Laws.{go, left, falls}
 use Rattle.reading.specs.Claims.{Every}
 use Rattle.record_chain.specs.Chain.{here, on}
-use Rattle.new_stream.specs.Entries.{Spot, Fate, stays, goes, table, text, sheet, fate_of, spot_after, parts, entries_from}
+use Rattle.new_stream.specs.declared.Spot.{Spot}
+use Rattle.new_stream.specs.declared.Fate.{Fate}
+use Rattle.new_stream.specs.declared.Fate.TheVariants as fate
+use Rattle.new_stream.specs.declared.Fate.TheVariants.{Stays, Goes, Table, Text}
+use Rattle.new_stream.specs.Entries.{fate_of, spot_after, parts, entries_from}
 use Rattle.new_stream.specs.Parts.{Given, View, moved_sheet, BoundMoved}
 use Rattle.new_stream.proofs.Echoed.{Echoes, Echo}
 use Rattle.new_stream.specs.Claims.{Row, Standing, TableAt, IsTable}
@@ -44,27 +50,27 @@ use Rattle.new_stream.proofs.GlobalFates.{Turns, turns, sheet_step, sst_step, eo
 
 -- ---- the walk, a step at a time
 module _ (s : List ℕ) where
-  from_more : (v w : Globals) → step_of s v ≡ More w → records_from s v ≡ records_from s w
+  from_more : (v w : Globals) → step_of s v ≡ Ok (More w) → records_from s v ≡ records_from s w
   unfolding records_from
-  from_more v w h = run_more (go s) (Refused 4 (length s)) (left s) (falls s) (ap turn h)
+  from_more v w h = run_more (go s) (refuse 4 (length s)) (left s) (falls s) (ap turn h)
 
-  from_close : (v w : Globals) → step_of s v ≡ Close w → records_from s v ≡ At w
+  from_close : (v w : Globals) → step_of s v ≡ Ok (Close w) → records_from s v ≡ Ok w
   unfolding records_from
-  from_close v w h = run_stop (go s) (Refused 4 (length s)) (left s) (falls s) (ap turn h)
+  from_close v w h = run_stop (go s) (refuse 4 (length s)) (left s) (falls s) (ap turn h)
 
-  from_stop : (v : Globals) (n o : ℕ) → step_of s v ≡ Stop n o → records_from s v ≡ Refused n o
+  from_stop : (v : Globals) (r : Refusal) → step_of s v ≡ Err r → records_from s v ≡ Err r
   unfolding records_from
-  from_stop v n o h = run_stop (go s) (Refused 4 (length s)) (left s) (falls s) (ap turn h)
+  from_stop v r h = run_stop (go s) (refuse 4 (length s)) (left s) (falls s) (ap turn h)
 
-  less_more : (v w : Globals) → step_of s v ≡ More w → left s w < left s v
+  less_more : (v w : Globals) → step_of s v ≡ Ok (More w) → left s w < left s v
   less_more v w h = falls s v w (ap turn h)
 
 -- where no record stands
-cut_step : (s : List ℕ) (v : Globals) → header_at s v.at ≡ Cut → step_of s v ≡ Stop 2 v.at
+cut_step : (s : List ℕ) (v : Globals) → header_at s v.at ≡ Cut → step_of s v ≡ refuse 2 v.at
 unfolding step_of
 cut_step s v h = ap (on_header s v) h
 
-end_step : (s : List ℕ) (v : Globals) → header_at s v.at ≡ End → step_of s v ≡ Stop 4 (length s)
+end_step : (s : List ℕ) (v : Globals) → header_at s v.at ≡ End → step_of s v ≡ refuse 4 (length s)
 unfolding step_of
 end_step s v h = ap (on_header s v) h
 
@@ -111,7 +117,7 @@ module _ (m : Given) (n : ℕ) (g : Globals) (tab : (g.table ≡ 0 → ⊥) → 
 
   pub record Lands (v v' : Globals) (w : Spot) : Type 0 where
     pub end : Globals
-    pub ends : records_from t v' ≡ At end
+    pub ends : records_from t v' ≡ Ok end
     pub view : View m (spot g.at 0 0x0005) end.at
     pub told : Told g end
     pub kept : (v.table ≡ 0 → ⊥) → g.table ≡ v.table
@@ -122,12 +128,12 @@ module _ (m : Given) (n : ℕ) (g : Globals) (tab : (g.table ≡ 0 → ⊥) → 
     pub echo : Echo m (spot g.at 0 0x0005) end.at → Echo m w v'.at
 
   abbrev Ending : Globals → Type 0
-  Ending v = records_from s v ≡ At g
+  Ending v = records_from s v ≡ Ok g
 
-  stops_not : (v : Globals) (k o : ℕ) → Ending v → step_of s v ≡ Stop k o → ⊥
-  stops_not v k o h i = let j = from_stop s v k o i in never (cc)
+  stops_not : (v : Globals) {r : Refusal} → Ending v → step_of s v ≡ Err r → ⊥
+  stops_not v {r} h i = let j = from_stop s v r i in never (cc)
 
-  on_more : (v y : Globals) → Ending v → step_of s v ≡ More y → Ending y
+  on_more : (v y : Globals) → Ending v → step_of s v ≡ Ok (More y) → Ending y
   on_more v y h i = sym (from_more s v y i) ∙ h
 
   abbrev Again : Globals → Type 0
@@ -168,7 +174,7 @@ module _ (m : Given) (n : ℕ) (g : Globals) (tab : (g.table ≡ 0 → ⊥) → 
 
     -- ---- on past a record that both have
     module _ (o : Bool) (e' : ℕ) (a : ty ≡ 0x0809 → ⊥) (b : ty ≡ 0x000A → ⊥) (view : View m after e')
-        (old : step_of s v ≡ More (past v o e)) (new : step_of t v' ≡ More (past v' o e')) where
+        (old : step_of s v ≡ Ok (More (past v o e))) (new : step_of t v' ≡ Ok (More (past v' o e'))) where
       past_tracks : Tracks (past v o e) (past v' o e') after
       unfolding past
       past_tracks = record { at = after_at s w ty e; level = after_level a b; kind = after_is; orphan = λ _. refl; view = view; low = beyond; told = tr.told }
@@ -182,7 +188,7 @@ module _ (m : Given) (n : ℕ) (g : Globals) (tab : (g.table ≡ 0 → ⊥) → 
       past_lands free sheets bounds ec = record { end = rest.end; ends = from_more t v' (past v' o e') new ∙ rest.ends; view = rest.view; told = rest.told; kept = rest.kept; free = free; found = rest.found; sheets = sheets rest.sheets; bounds = bounds rest.bounds; echo = λ x. ec (rest.echo x) }
 
     -- ---- it is gone
-    goes_past : fate_of w ty ≡ goes → (ty ≡ 0x0809 → ⊥) → (ty ≡ 0x000A → ⊥) → (ty ≡ 0x0085 → ⊥) → step_of s v ≡ More (past v false e) → Lands v v' w
+    goes_past : fate_of w ty ≡ Goes → (ty ≡ 0x0809 → ⊥) → (ty ≡ 0x000A → ⊥) → (ty ≡ 0x0085 → ⊥) → step_of s v ≡ Ok (More (past v false e)) → Lands v v' w
     unfolding past
     goes_past i a b c old =
         let gone : after.gone ≡ true = after_gone s w ty e ∙ ap parts i in
@@ -192,17 +198,17 @@ module _ (m : Given) (n : ℕ) (g : Globals) (tab : (g.table ≡ 0 → ⊥) → 
         (on_more v (past v false e) en old) in
         record { end = l.end; ends = l.ends; view = l.view; told = l.told; kept = l.kept; free = λ _. l.free gone; found = l.found; sheets = l.sheets ∙ sym (ap (map (moved_sheet m)) (skip_sheets s v.at ty z e here_is c b)); bounds = subst (Every (BoundMoved m)) (sym (skip_sheets s v.at ty z e here_is c b)) l.bounds; echo = λ ec. echo_gone m w q ty z e inside tr.view h i a b (l.echo ec) }
 
-    goes_continue : fate_of w ty ≡ goes → ty ≡ 0x003C → (b : Bool) → v.orphan ≡ b → Lands v v' w
+    goes_continue : fate_of w ty ≡ Goes → ty ≡ 0x003C → (b : Bool) → v.orphan ≡ b → Lands v v' w
     unfolding continue_record pick
-    goes_continue i c true o = absurd (stops_not v 7 v.at en (old_step ∙ continue_step s v ty z e c ∙ ap (λ (b : Bool). pick b (Stop 7 v.at) (More (past v false e))) o))
-    goes_continue i c false o = goes_past i (λ x. omega arith) (λ x. omega arith) (λ x. omega arith) (old_step ∙ continue_step s v ty z e c ∙ ap (λ (b : Bool). pick b (Stop 7 v.at) (More (past v false e))) o)
+    goes_continue i c true o = absurd (stops_not v en (old_step ∙ continue_step s v ty z e c ∙ ap (λ (b : Bool). pick b (refuse 7 v.at) (Ok (More (past v false e)))) o))
+    goes_continue i c false o = goes_past i (λ x. omega arith) (λ x. omega arith) (λ x. omega arith) (old_step ∙ continue_step s v ty z e c ∙ ap (λ (b : Bool). pick b (refuse 7 v.at) (Ok (More (past v false e)))) o)
 
-    goes_lands : fate_of w ty ≡ goes → (ty ≡ 0x003C) ⊎ (ty ≡ 0x00FF) → Lands v v' w
+    goes_lands : fate_of w ty ≡ Goes → (ty ≡ 0x003C) ⊎ (ty ≡ 0x00FF) → Lands v v' w
     goes_lands i (inl c) = goes_continue i c v.orphan refl
     goes_lands i (inr c) = goes_past i (λ x. omega arith) (λ x. omega arith) (λ x. omega arith) (old_step ∙ extsst_step s v ty z e c)
 
     -- ---- it stays
-    module _ (i : fate_of w ty ≡ stays) (whole-orphan : ty ≡ 0x003C → w.gone ≡ false) (no_sheet_lem : ty ≡ 0x0085 → ⊥) (no_table : ty ≡ 0x00FC → ⊥) where
+    module _ (i : fate_of w ty ≡ Stays) (whole-orphan : ty ≡ 0x003C → w.gone ≡ false) (no_sheet_lem : ty ≡ 0x0085 → ⊥) (no_table : ty ≡ 0x00FC → ⊥) where
       abbrev e₁ : ℕ
       e₁ = q + (4 + z)
 
@@ -212,15 +218,15 @@ module _ (m : Given) (n : ℕ) (g : Globals) (tab : (g.table ≡ 0 → ⊥) → 
       free₁ : w.gone ≡ true → continues t q ≡ false
       free₁ g₁ = continues_not t q ty z e₁ header₁ (λ c. let o = whole-orphan c in never (cc))
 
-      plain_by : (ty ≡ 0x000A → ⊥) → (x : Step) → record_in s v ty z e ≡ x → Both s t v v' ty z e e₁ x (record_in t v' ty z e₁) → Lands v v' w
-      plain_by b (More y) j l =
+      plain_by : (ty ≡ 0x000A → ⊥) → (x : Result Step Refusal) → record_in s v ty z e ≡ x → Both s t v v' ty z e e₁ x (record_in t v' ty z e₁) → Lands v v' w
+      plain_by b (Ok (More y)) j l =
           past_lands false e₁ (bof_not s v ty z e y j) b (kept_next m w q ty z e inside tr.view h i)
-          (old_step ∙ j ∙ ap More l.0) (new_step ty z e₁ header₁ ∙ l.1) free₁
+          (old_step ∙ j ∙ (λ i. Ok (More (l.0 i)))) (new_step ty z e₁ header₁ ∙ l.1) free₁
           (λ k. skip_sheets t q ty z e₁ header₁ no_sheet_lem b ∙ k ∙ sym (ap (map (moved_sheet m)) (skip_sheets s v.at ty z e here_is no_sheet_lem b)))
           (subst (Every (BoundMoved m)) (sym (skip_sheets s v.at ty z e here_is no_sheet_lem b)))
           (echo_kept m w q ty z e inside tr.view h i whole-orphan)
-      plain_by b (Close y) j l = absurd l
-      plain_by b (Stop k o) j l = absurd (stops_not v k o en (old_step ∙ j))
+      plain_by b (Ok (Close y)) j l = absurd l
+      plain_by b (Err r) j l = absurd (stops_not v en (old_step ∙ j))
 
       last_spot : ty ≡ 0x000A → e ≡ g.at → after ≡ spot g.at 0 0x0005
       last_spot c same = spot_is after g.at 0 0x0005 (after_at s w ty e ∙ same) (after_eof s w ty e c ∙ ap (λ (x : ℕ). x - 1) tr.level) after_is (after_gone s w ty e ∙ ap parts i)
@@ -228,9 +234,9 @@ module _ (m : Given) (n : ℕ) (g : Globals) (tab : (g.table ≡ 0 → ⊥) → 
       eof_by : ty ≡ 0x000A → (b : Bool) → eqb z 0 ≡ b → Lands v v' w
       unfolding eof_record pick past
       eof_by c true j =
-          let old : step_of s v ≡ Close (past v false e) = old_step ∙ eof_step s v ty z e c ∙ ap (λ (b : Bool). pick b (Close (past v false e)) (Stop 6 v.at)) j in
-          let new : step_of t v' ≡ Close (past v' false e₁) = new_step ty z e₁ header₁ ∙ eof_step t v' ty z e₁ c ∙ ap (λ (b : Bool). pick b (Close (past v' false e₁)) (Stop 6 q)) j in
-          let last : At (past v false e) ≡ At g = sym (from_close s v (past v false e) old) ∙ en in
+          let old : step_of s v ≡ Ok (Close (past v false e)) = old_step ∙ eof_step s v ty z e c ∙ ap (λ (b : Bool). pick b (Ok (Close (past v false e))) (refuse 6 v.at)) j in
+          let new : step_of t v' ≡ Ok (Close (past v' false e₁)) = new_step ty z e₁ header₁ ∙ eof_step t v' ty z e₁ c ∙ ap (λ (b : Bool). pick b (Ok (Close (past v' false e₁))) (refuse 6 q)) j in
+          let last : ◌≡◌ {A = Result Globals Refusal} (Ok (past v false e)) (Ok g) = sym (from_close s v (past v false e) old) ∙ en in
           let same : past v false e ≡ g = cc in
           record {
             end = past v' false e₁;
@@ -244,7 +250,7 @@ module _ (m : Given) (n : ℕ) (g : Globals) (tab : (g.table ≡ 0 → ⊥) → 
             bounds = subst (Every (BoundMoved m)) (sym (end_sheets s v.at ty z e here_is c)) tt;
             sheets = end_sheets t q ty z e₁ header₁ c ∙ sym (ap (map (moved_sheet m)) (end_sheets s v.at ty z e here_is c));
           }
-      eof_by c false j = absurd (stops_not v 6 v.at en (old_step ∙ eof_step s v ty z e c ∙ ap (λ (b : Bool). pick b (Close (past v false e)) (Stop 6 v.at)) j))
+      eof_by c false j = absurd (stops_not v en (old_step ∙ eof_step s v ty z e c ∙ ap (λ (b : Bool). pick b (Ok (Close (past v false e))) (refuse 6 v.at)) j))
 
       stays_lands : Lands v v' w
       stays_lands = by (eqb ty 0x000A) refl
@@ -254,7 +260,7 @@ module _ (m : Given) (n : ℕ) (g : Globals) (tab : (g.table ≡ 0 → ⊥) → 
           by false j = let b = eqb-false ty 0x000A j in plain_by b (record_in s v ty z e) refl (plain_both s t v v' ty z e e₁ no_sheet_lem no_table b (λ c. tr.orphan (whole-orphan c)))
 
     -- ---- a BOUNDSHEET
-    bound_moved : fate_of w ty ≡ sheet → ty ≡ 0x0085 → 8 ≤ z → q ≡ m.total v.at → {a b : ℕ} → BoundMoved m (record { header = v.at; position = a; kind = b })
+    bound_moved : fate_of w ty ≡ fate.Sheet → ty ≡ 0x0085 → 8 ≤ z → q ≡ m.total v.at → {a : ℕ} {b : SheetKind} → BoundMoved m (record { header = v.at; position = a; kind = b })
     bound_moved i c long place = record {
       size = z;
       end = e;
@@ -264,15 +270,15 @@ module _ (m : Given) (n : ℕ) (g : Globals) (tab : (g.table ≡ 0 → ⊥) → 
       same = λ k a b. ap (λ (n : ℕ). get_or (drop n s) k 0) (sym tr.at) ∙ bound_same m w q ty z e inside tr.view h i k a (inr b) ∙ ap (λ (n : ℕ). get_or (drop n t) k 0) place;
     }
 
-    sheet_by : fate_of w ty ≡ sheet → ty ≡ 0x0085 → (b : Bool) → boundsheet_fits s v.at z ≡ b → Lands v v' w
+    sheet_by : fate_of w ty ≡ fate.Sheet → ty ≡ 0x0085 → (b : Bool) → boundsheet_fits s v.at z ≡ b → Lands v v' w
     unfolding boundsheet_record pick
     sheet_by i c true j =
         let e₁ : ℕ = q + (4 + z) in
         let header₁ : header_at t q ≡ Record ty z (q + (4 + z)) = bound_header m w q ty z e inside tr.view h i in
         let long : 8 ≤ z = fits_long s v.at z j in
         let fits : boundsheet_fits t q z ≡ true = sym (fits_moved s t p q z (λ k a b. bound_same m w q ty z e inside tr.view h i k a (inr b))) ∙ ap (λ (x : ℕ). boundsheet_fits s x z) tr.at ∙ j in
-        let old : step_of s v ≡ More (past v true e) = old_step ∙ sheet_step s v ty z e c ∙ ap (λ (b : Bool). pick b (More (past v true e)) (Stop 6 v.at)) j in
-        let new : step_of t v' ≡ More (past v' true (q + (4 + z))) = new_step ty z (q + (4 + z)) header₁ ∙ sheet_step t v' ty z (q + (4 + z)) c ∙ ap (λ (b : Bool). pick b (More (past v' true (q + (4 + z)))) (Stop 6 q)) fits in
+        let old : step_of s v ≡ Ok (More (past v true e)) = old_step ∙ sheet_step s v ty z e c ∙ ap (λ (b : Bool). pick b (Ok (More (past v true e))) (refuse 6 v.at)) j in
+        let new : step_of t v' ≡ Ok (More (past v' true (q + (4 + z)))) = new_step ty z (q + (4 + z)) header₁ ∙ sheet_step t v' ty z (q + (4 + z)) c ∙ ap (λ (b : Bool). pick b (Ok (More (past v' true (q + (4 + z))))) (refuse 6 q)) fits in
         let number : u32_at t (q + 4) ≡ m.place (u32_at s (v.at + 4)) = bound_number m w q ty z e inside tr.view h i (omega arith) (placed (u32_at s (p + 4))) ∙ ap (λ (x : ℕ). m.place (u32_at s (x + 4))) tr.at in
         let type : byte_at t (q + 9) ≡ byte_at s (v.at + 9) = sym (sym (get_or-drop p s 9 0) ∙ bound_same m w q ty z e inside tr.view h i 9 (omega arith) (inr (omega arith)) ∙ get_or-drop q t 9 0) ∙ ap (λ (x : ℕ). byte_at s (x + 9)) tr.at in
         let place : q ≡ m.total v.at = sym (view_place m w q tr.view) ∙ ap m.total tr.at in
@@ -282,18 +288,18 @@ module _ (m : Given) (n : ℕ) (g : Globals) (tab : (g.table ≡ 0 → ⊥) → 
         (λ k. subst (Every (BoundMoved m)) (sym (some_sheets s v.at ty z e here_is c long)) (bound_moved i c long place, k))
         (echo_sheet m w q ty z e inside tr.view h i (λ x. omega arith) long (bound_number m w q ty z e inside tr.view h i (omega arith) (placed (u32_at s (p + 4)))))
       where
-        sheets_are : {a b c a' b' c' : ℕ} {l l' : List Sheet} → a ≡ a' → b ≡ b' → c ≡ c' → l ≡ l' → ◌≡◌ {A = List Sheet} (record { header = a; position = b; kind = c } ∷ l) (record { header = a'; position = b'; kind = c' } ∷ l')
+        sheets_are : {a b a' b' : ℕ} {c c' : SheetKind} {l l' : List Sheet} → a ≡ a' → b ≡ b' → c ≡ c' → l ≡ l' → ◌≡◌ {A = List Sheet} (record { header = a; position = b; kind = c } ∷ l) (record { header = a'; position = b'; kind = c' } ∷ l')
         sheets_are a b c l = λ i. record { header = a i; position = b i; kind = c i } ∷ l i
-    sheet_by i c false j = absurd (stops_not v 6 v.at en (old_step ∙ sheet_step s v ty z e c ∙ ap (λ (b : Bool). pick b (More (past v true e)) (Stop 6 v.at)) j))
+    sheet_by i c false j = absurd (stops_not v en (old_step ∙ sheet_step s v ty z e c ∙ ap (λ (b : Bool). pick b (Ok (More (past v true e))) (refuse 6 v.at)) j))
 
     -- ---- the string table
-    module _ (i : fate_of w ty ≡ table) (c : ty ≡ 0x00FC) (none : v.table ≡ 0) (k o : ℕ) (x : answer_of (table_of s v.at e) ≡ strings.Table k o) where
+    module _ (i : fate_of w ty ≡ Table) (c : ty ≡ 0x00FC) (none : v.table ≡ 0) (k o : ℕ) (x : answer_of (table_of s v.at e) ≡ Ok (record { strings = k; end = o })) where
       abbrev q₁ : ℕ
       q₁ = q + length m.T
 
-      old : step_of s v ≡ More (past_table v k o)
+      old : step_of s v ≡ Ok (More (past_table v k o))
       unfolding sst_record
-      old = old_step ∙ sst_step s v ty z e c ∙ sym (pick_eq (More (past_table v k o)) _ _ v.table 0 none (sym (ap (on_table v) x)))
+      old = old_step ∙ sst_step s v ty z e c ∙ sym (pick_eq (Ok (More (past_table v k o))) _ _ v.table 0 none (sym (ap (on_table v) x)))
 
       row : Row s e o
       row = table_row s v.at e k o x
@@ -330,18 +336,18 @@ module _ (m : Given) (n : ℕ) (g : Globals) (tab : (g.table ≡ 0 → ⊥) → 
       stands : TableAt t q (length m.T) n
       stands = is_table.stands t q standing
 
-      answer : answer_of (table_of t q (q + 4 + stands.body)) ≡ strings.Table n q₁
-      answer = ap answer_of stands.reads ∙ ap₂ strings.Table stands.count stands.end
+      answer : answer_of (table_of t q (q + 4 + stands.body)) ≡ Ok (record { strings = n; end = q₁ })
+      answer = ap answer_of stands.reads ∙ (λ i. Ok (record { strings = stands.count i; end = stands.end i }))
 
-      new : step_of t v' ≡ More (past_table v' n q₁)
+      new : step_of t v' ≡ Ok (More (past_table v' n q₁))
       unfolding sst_record
       new = new_step 0x00FC stands.body (q + 4 + stands.body) stands.header ∙ sst_step t v' 0x00FC stands.body (q + 4 + stands.body) refl
-          ∙ sym (pick_eq (More (past_table v' n q₁)) _ _ v'.table 0 (tr.told.0 none).0 (sym (ap (on_table v') answer)))
+          ∙ sym (pick_eq (Ok (More (past_table v' n q₁))) _ _ v'.table 0 (tr.told.0 none).0 (sym (ap (on_table v') answer)))
 
       echo_of : Echo m after q₁ → Echo m w q
       echo_of ec =
           let hd : header_at s w.at ≡ Record 0x00FC z e = h ∙ ap (λ (k : ℕ). Record k z e) c in
-          let it : fate_of w 0x00FC ≡ table = ap (fate_of w) (sym c) ∙ i in
+          let it : fate_of w 0x00FC ≡ Table = ap (fate_of w) (sym c) ∙ i in
           let some = is_table.some in
           echo_table m w q z e n inside tr.view hd it (omega arith) standing stands (table_row t q (q + 4 + stands.body) n q₁ answer)
           (λ y a l k. subst (λ (x : ℕ). Echoes m q₁ (entries_from s (spot_after s w x e)) (entries_from t y)) c
@@ -370,30 +376,30 @@ module _ (m : Given) (n : ℕ) (g : Globals) (tab : (g.table ≡ 0 → ⊥) → 
             ∙ sym (ap (map (moved_sheet m)) (skip_sheets s v.at ty z e here_is (λ x. omega arith) (λ x. omega arith) ∙ row_sheets s row));
       }
 
-    table_told : fate_of w ty ≡ table → ty ≡ 0x00FC → v.table ≡ 0 → (x : Strings) → answer_of (table_of s v.at e) ≡ x → Lands v v' w
+    table_told : fate_of w ty ≡ Table → ty ≡ 0x00FC → v.table ≡ 0 → (x : Result strings.Table Refusal) → answer_of (table_of s v.at e) ≡ x → Lands v v' w
     unfolding sst_record
-    table_told i c none (strings.Table k o) x = table_lands i c none k o x
-    table_told i c none (strings.Refused k o) x = absurd (stops_not v k o en (old_step ∙ sst_step s v ty z e c ∙ sym (pick_eq (Stop k o) _ _ v.table 0 none (sym (ap (on_table v) x)))))
+    table_told i c none (Ok y) x = table_lands i c none y.strings y.end x
+    table_told i c none (Err r) x = absurd (stops_not v en (old_step ∙ sst_step s v ty z e c ∙ sym (pick_eq (Err r) _ _ v.table 0 none (sym (ap (on_table v) x)))))
 
-    table_by : fate_of w ty ≡ table → ty ≡ 0x00FC → (b : Bool) → eqb v.table 0 ≡ b → Lands v v' w
+    table_by : fate_of w ty ≡ Table → ty ≡ 0x00FC → (b : Bool) → eqb v.table 0 ≡ b → Lands v v' w
     unfolding sst_record pick
     table_by i c true j = table_told i c (eqb-true v.table 0 j) (answer_of (table_of s v.at e)) refl
-    table_by i c false j = absurd (stops_not v 8 v.at en (old_step ∙ sst_step s v ty z e c ∙ ap (λ (b : Bool). pick b (on_table v (answer_of (table_of s v.at e))) (Stop 8 v.at)) j))
+    table_by i c false j = absurd (stops_not v en (old_step ∙ sst_step s v ty z e c ∙ ap (λ (b : Bool). pick b (on_table v (answer_of (table_of s v.at e))) (refuse 8 v.at)) j))
 
     record_by : (x : Fate) → fate_of w ty ≡ x → Turns w ty x → Lands v v' w
-    record_by stays i l = stays_lands i l.0 l.1 l.2
-    record_by goes i l = goes_lands i l
-    record_by table i l = table_by i l (eqb v.table 0) refl
-    record_by text i l = absurd l
-    record_by sheet i l = sheet_by i l (boundsheet_fits s v.at z) refl
+    record_by Stays i l = stays_lands i l.0 l.1 l.2
+    record_by Goes i l = goes_lands i l
+    record_by Table i l = table_by i l (eqb v.table 0) refl
+    record_by Text i l = absurd l
+    record_by fate.Sheet i l = sheet_by i l (boundsheet_fits s v.at z) refl
 
     record_lands : Lands v v' w
     record_lands = record_by (fate_of w ty) refl (turns w ty tr.level tr.kind)
 
   header_lands : (v v' : Globals) (w : Spot) → Tracks v v' w → Ending v → Again v → (x : Header) → header_at s w.at ≡ x → Lands v v' w
   header_lands v v' w tr en again (Record ty z e) h = record_lands v v' w tr en again ty z e h
-  header_lands v v' w tr en again Cut h = absurd (stops_not v 2 v.at en (cut_step s v (sym (ap (header_at s) tr.at) ∙ h)))
-  header_lands v v' w tr en again End h = absurd (stops_not v 4 (length s) en (end_step s v (sym (ap (header_at s) tr.at) ∙ h)))
+  header_lands v v' w tr en again Cut h = absurd (stops_not v en (cut_step s v (sym (ap (header_at s) tr.at) ∙ h)))
+  header_lands v v' w tr en again End h = absurd (stops_not v en (end_step s v (sym (ap (header_at s) tr.at) ∙ h)))
 
   walk_lands : (k : ℕ) (v v' : Globals) (w : Spot) → left s v < k → Tracks v v' w → Ending v → Lands v v' w
   walk_lands zero v v' w l tr en = absurd (omega arith)

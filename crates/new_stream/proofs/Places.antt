@@ -16,7 +16,9 @@ use Rattle.record.specs.Record.{header_at}
 use Rattle.record.proofs.Laws.{whole}
 use Rattle.reading.specs.Claims.{Every}
 use Rattle.record_chain.proofs.Chain.{Keeps, collect_every}
-use Rattle.new_stream.specs.Entries.{Spot, Entry, record_item, rest_item, on_header, entry_item, entries_from}
+use Rattle.new_stream.specs.declared.Spot.{Spot}
+use Rattle.new_stream.specs.declared.Entry.{Entry}
+use Rattle.new_stream.specs.Entries.{record_item, rest_item, on_header, entry_item, entries_from}
 use Rattle.new_stream.specs.Compact.{new_bytes, written, new_size, place_in, texts_in, uses, used_below, index_in}
 use Rattle.new_stream.proofs.Written.{new_size_lem}
 

@@ -17,7 +17,10 @@ use Rattle.record.specs.Record.{header_at}
 use Rattle.record.proofs.Laws.{Whole, whole}
 use Rattle.moved_records.proofs.Views.{num_drop}
 use Rattle.moved_records.proofs.Moved.{header_moved}
-use Rattle.new_stream.specs.Entries.{Spot, Fate, stays, goes, table, text, sheet, fate_of, spot_after, entries_from}
+use Rattle.new_stream.specs.declared.Spot.{Spot}
+use Rattle.new_stream.specs.declared.Fate.{Fate}
+use Rattle.new_stream.specs.declared.Fate.TheVariants.{Stays, Goes, Table, Text, Sheet}
+use Rattle.new_stream.specs.Entries.{fate_of, spot_after, entries_from}
 use Rattle.new_stream.specs.Compact.{written}
 use Rattle.new_stream.specs.Parts.{Given, View, Ahead}
 use Rattle.new_stream.proofs.Entries.{entries_record, entries_bof}
@@ -66,16 +69,16 @@ module _ (m : Given) (w : Spot) (q ty z e : ℕ) (inside : w.level ≡ 0 → ⊥
   entries_by f i = entries_record s w ty z e h inside ∙ ap (λ (f : Fate). record { at = w.at; size = 4 + z; fate = f } ∷ entries_from s next) i
 
   -- it is gone: the new stream shows what comes after it at the same place
-  pub gone_next : fate_of w ty ≡ goes → View m next q
-  gone_next i = subst (View m next) (omega arith) (view_next m w next q (4 + z) goes v (entries_by goes i) fits later)
+  pub gone_next : fate_of w ty ≡ Goes → View m next q
+  gone_next i = subst (View m next) (omega arith) (view_next m w next q (4 + z) Goes v (entries_by Goes i) fits later)
 
   -- it stays
-  module _ (i : fate_of w ty ≡ stays) where
+  module _ (i : fate_of w ty ≡ Stays) where
     pub kept_next : View m next (q + (4 + z))
-    kept_next = view_next m w next q (4 + z) stays v (entries_by stays i) fits later
+    kept_next = view_next m w next q (4 + z) Stays v (entries_by Stays i) fits later
 
     pub kept_same : Same (drop w.at s) (drop q t) 0 (4 + z)
-    kept_same = stays_same m w next q (4 + z) v fits later (entries_by stays i)
+    kept_same = stays_same m w next q (4 + z) v fits later (entries_by Stays i)
 
     pub kept_header : header_at t q ≡ Record ty z (q + (4 + z))
     kept_header =
@@ -96,23 +99,23 @@ module _ (m : Given) (w : Spot) (q ty z e : ℕ) (inside : w.level ≡ 0 → ⊥
         by false c = continues_not t q ty z (q + (4 + z)) kept_header (eqb-false ty 0x003C c)
 
   -- it gets a new index
-  module _ (i : fate_of w ty ≡ text) where
+  module _ (i : fate_of w ty ≡ Text) where
     pub text_next : View m next (q + (4 + z))
-    text_next = view_next m w next q (4 + z) text v (entries_by text i) fits later
+    text_next = view_next m w next q (4 + z) Text v (entries_by Text i) fits later
 
     pub text_header : header_at t q ≡ Record ty z (q + (4 + z))
     text_header =
         let n = text_next.within in
         let end : q + 4 + z ≡ q + (4 + z) = omega arith in
-        header_moved s t w.at q ty z e h (λ k a b. text_same m w next q (4 + z) v fits later (entries_by text i) k (omega arith) (inl (omega arith))) (omega arith) ∙ ap (Record ty z) end
+        header_moved s t w.at q ty z e h (λ k a b. text_same m w next q (4 + z) v fits later (entries_by Text i) k (omega arith) (inl (omega arith))) (omega arith) ∙ ap (Record ty z) end
 
   -- it gets a new position
-  module _ (i : fate_of w ty ≡ sheet) where
+  module _ (i : fate_of w ty ≡ Sheet) where
     pub bound_next : View m next (q + (4 + z))
-    bound_next = view_next m w next q (4 + z) sheet v (entries_by sheet i) fits later
+    bound_next = view_next m w next q (4 + z) Sheet v (entries_by Sheet i) fits later
 
     pub bound_same : (k : ℕ) → k < 4 + z → (k < 4) ⊎ (8 ≤ k) → get_or (drop w.at s) k 0 ≡ get_or (drop q t) k 0
-    bound_same = sheet_same m w next q (4 + z) v fits later (entries_by sheet i)
+    bound_same = sheet_same m w next q (4 + z) v fits later (entries_by Sheet i)
 
     pub bound_header : header_at t q ≡ Record ty z (q + (4 + z))
     bound_header =
@@ -121,21 +124,21 @@ module _ (m : Given) (w : Spot) (q ty z e : ℕ) (inside : w.level ≡ 0 → ⊥
         header_moved s t w.at q ty z e h (λ k a b. bound_same k (omega arith) (inl b)) (omega arith) ∙ ap (Record ty z) end
 
     pub bound_number : 4 ≤ z → m.place (u32_at s (w.at + 4)) < 256 ^ 4 → u32_at t (q + 4) ≡ m.place (u32_at s (w.at + 4))
-    bound_number l small = sym (num_drop t q 4 4) ∙ sheet_number m w next q (4 + z) v fits later (entries_by sheet i) (omega arith) small
+    bound_number l small = sym (num_drop t q 4 4) ∙ sheet_number m w next q (4 + z) v fits later (entries_by Sheet i) (omega arith) small
 
   -- the new table stands in its place
-  module _ (i : fate_of w ty ≡ table) where
+  module _ (i : fate_of w ty ≡ Table) where
     pub table_next : View m next (q + length m.T)
-    table_next = view_next m w next q (4 + z) table v (entries_by table i) fits later
+    table_next = view_next m w next q (4 + z) Table v (entries_by Table i) fits later
 
     pub table_split : drop q t ≡ m.T ++ written s m.T m.index m.place (entries_from s next)
-    table_split = view_split m w next q (4 + z) table v (entries_by table i) fits later
+    table_split = view_split m w next q (4 + z) Table v (entries_by Table i) fits later
 
 -- ---- a BOF, at the top level or inside
 abbrev pub opened_at : Given → Spot → Spot
 opened_at m w = spot_after m.s w 0x0809 (w.at + 20)
 
-bof_entries : (m : Given) (w : Spot) → header_at m.s w.at ≡ Record 0x0809 16 (w.at + 20) → entries_from m.s w ≡ record { at = w.at; size = 20; fate = stays } ∷ entries_from m.s (opened_at m w)
+bof_entries : (m : Given) (w : Spot) → header_at m.s w.at ≡ Record 0x0809 16 (w.at + 20) → entries_from m.s w ≡ record { at = w.at; size = 20; fate = Stays } ∷ entries_from m.s (opened_at m w)
 bof_entries m w h = by (eqb w.level 0) refl ∙ ap (λ (f : Fate). record { at = w.at; size = 20; fate = f } ∷ entries_from m.s (opened_at m w)) (marks_stay w 0x0809 (inl refl))
   where
     by : (b : Bool) → eqb w.level 0 ≡ b → entries_from m.s w ≡ record { at = w.at; size = 20; fate = fate_of w 0x0809 } ∷ entries_from m.s (opened_at m w)
@@ -150,7 +153,7 @@ module _ (m : Given) (w : Spot) (q : ℕ) (v : View m w q) (h : header_at m.s w.
   bof_later = let a = after_at m.s w 0x0809 (w.at + 20) in (omega arith, omega arith)
 
   pub bof_next : View m (opened_at m w) (q + 20)
-  bof_next = view_next m w (opened_at m w) q 20 stays v (bof_entries m w h) bof_fits bof_later
+  bof_next = view_next m w (opened_at m w) q 20 Stays v (bof_entries m w h) bof_fits bof_later
 
   pub bof_same : Same (drop w.at m.s) (drop q m.t) 0 20
   bof_same = stays_same m w (opened_at m w) q 20 v bof_fits bof_later (bof_entries m w h)

@@ -19,7 +19,9 @@ use Rattle.text_result.proofs.Local.{text_near}
 use Rattle.record_chain.specs.Chain.{Chain, here, on, Plain}
 use Rattle.moved_records.proofs.Later.{later_cursor, later_got}
 use Rattle.moved_records.proofs.Texts.{continues_drop, text_drop}
-use Rattle.new_stream.specs.Entries.{Spot, stays, fate_of, parts, spot_after}
+use Rattle.new_stream.specs.declared.Spot.{Spot}
+use Rattle.new_stream.specs.declared.Fate.TheVariants.{Stays}
+use Rattle.new_stream.specs.Entries.{fate_of, parts, spot_after}
 use Rattle.new_stream.specs.Parts.{Given, View}
 use Rattle.new_stream.proofs.Echoed.{Echo}
 use Rattle.new_stream.proofs.Fates.{after_at, after_gone, after_kind, after_plain, plain_stays}
@@ -50,11 +52,11 @@ pub record Followed (m : Given) (L K x y q : ℕ) : Type 0 where
   pub echo : Echo m (spot y L K) (q + size) → Echo m (spot x L K) q
 
 module _ (m : Given) (L K : ℕ) (deep : L ≡ 0 → ⊥) (sheet : L ≡ 1 → K ≡ 0x0010) where
-  followed_on : (x e y q ty z : ℕ) → header_at m.s x ≡ Record ty z e → (ty ≡ 0x0809 → ⊥) → (ty ≡ 0x000A → ⊥) → fate_of (spot x L K) ty ≡ stays → View m (spot x L K) q
+  followed_on : (x e y q ty z : ℕ) → header_at m.s x ≡ Record ty z e → (ty ≡ 0x0809 → ⊥) → (ty ≡ 0x000A → ⊥) → fate_of (spot x L K) ty ≡ Stays → View m (spot x L K) q
       → (View m (spot e L K) (q + (4 + z)) → Followed m L K e y (q + (4 + z))) → Followed m L K x y q
   followed_on x e y q ty z h a b i v follow =
       let w : Spot = spot x L K in
-      let i' : fate_of (spot x L K) ty ≡ stays = i in
+      let i' : fate_of (spot x L K) ty ≡ Stays = i in
       let next : spot_after m.s (spot x L K) ty e ≡ spot e L K =
       spot_is (spot_after m.s (spot x L K) ty e) e L K (after_at m.s (spot x L K) ty e) (after_plain m.s (spot x L K) ty e a b) (after_kind m.s (spot x L K) ty e deep) (after_gone m.s (spot x L K) ty e ∙ ap parts i) in
       let rest : Followed m L K e y (q + (4 + z)) = follow (subst (λ (o : Spot). View m o (q + (4 + z))) next (kept_next m (spot x L K) q ty z e deep v h i)) in

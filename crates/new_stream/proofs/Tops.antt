@@ -8,34 +8,33 @@ use lib.ListN.{length, drop, length-drop, drop_of_length-le}
 use lib.Seq.{take_all}
 use lib.Dec.{leb, ltb}
 use borrow.Author.Tests.{leb-true, ltb-true, ltb-false}
+use Rattle.std.specs.Prelude.{Option, Some, None, Result, Ok, Err}
+use Rattle.refusal.specs.declared.Refusal.{Refusal}
 use Rattle.steps.specs.Choice.{pick}
 use Rattle.steps.proofs.Choice.{never, pick_by, pick_eq, pick_ne, pick_nle, pick_true, pick_false}
-use Rattle.steps.specs.Walk.{more, stop}
-use Rattle.steps.proofs.Walk.{run_more, run_stop}
+use Rattle.steps.specs.Walk.{Next, more, stop, next}
 use Rattle.steps.specs.Items.{Item, ends, onto}
 use Rattle.byte_numbers.specs.Bytes.{byte_at, num_at, bytes_at}
 use Rattle.record.specs.declared.Header.{Header}
 use Rattle.record.specs.declared.Header.TheVariants.{Record, Cut, End}
 use Rattle.record.specs.Record.{header_at}
 use Rattle.record.proofs.Laws.{whole, header_end}
-use Rattle.substream.specs.declared.Ended.{Ended}
-use Rattle.substream.specs.declared.Ended.TheVariants.{At, Refused}
 use Rattle.substream.specs.Substream.{kind_at, substream_in}
 use Rattle.substream.proofs.Laws.{onward}
-use Rattle.sheet_agreement.specs.Agreement.{Bof}
-use Rattle.top_level.specs.declared.Top.{Top}
-use Rattle.top_level.specs.declared.Top.TheVariants as top
-use Rattle.top_level.specs.declared.Walked.TheVariants as walked
-use Rattle.top_level.specs.declared.Found.TheVariants as found
+use Rattle.sheet_agreement.specs.declared.SheetKind.TheVariants.{Other}
+use Rattle.sheet_agreement.specs.Agreement.{same_kind, Bof}
 use Rattle.top_level.specs.TopLevel.{all_zero, bof_kind, on_top, top_of, back, turn, tops_from, on_ended, on_open, bof_at, bofs_from}
-use Rattle.top_level.proofs.Bofs.{opens, go, falls, zero_not, bofs_done, bofs_more}
+use Rattle.top_level.proofs.Bofs.{opens, go, falls, tops_step, bofs_done, bofs_more}
 use Rattle.reading.specs.Claims.{Every}
 use Rattle.record_chain.proofs.Chain.{every_map}
 use Rattle.record_chain.proofs.Tops.{opening}
 use Rattle.passes_after.proofs.Walks.{end_is, done_zeros}
 use Rattle.passes_after.proofs.Zeros.{zeros_from}
 use Rattle.moved_records.proofs.Moved.{num_moved}
-use Rattle.new_stream.specs.Entries.{Spot, stays, Entry, spot_after, rest_item, on_header, entry_item, entries_from}
+use Rattle.new_stream.specs.declared.Spot.{Spot}
+use Rattle.new_stream.specs.declared.Entry.{Entry}
+use Rattle.new_stream.specs.declared.Fate.TheVariants.{Stays}
+use Rattle.new_stream.specs.Entries.{spot_after, rest_item, on_header, entry_item, entries_from}
 use Rattle.new_stream.specs.Compact.{written}
 use Rattle.new_stream.proofs.Echoed.{Echoes, none, rest, Echo}
 use Rattle.new_stream.specs.Parts.{Given, View, moved_bof, BofsApart, BofViewed}
@@ -88,13 +87,13 @@ module _ (s : List ℕ) where
   entries_end : (w : Spot) → length s ≤ w.at → entries_from s w ≡ []
   entries_end w h = entries_step s w ∙ ap (λ (x : Item Spot Entry). onto x (λ w. entries_from s w)) (item_end s s (λ n. n) (λ n. n) w h)
 
-  rest_entries : (w : Spot) → w.at < length s → onto (rest_item s w) (λ w. entries_from s w) ≡ record { at = w.at; size = length s - w.at; fate = stays } ∷ []
+  rest_entries : (w : Spot) → w.at < length s → onto (rest_item s w) (λ w. entries_from s w) ≡ record { at = w.at; size = length s - w.at; fate = Stays } ∷ []
   unfolding rest_item
   rest_entries w h =
       ap (λ (x : Item Spot Entry). onto x (λ w. entries_from s w)) (sym (pick_nle _ _ _ (length s) w.at h refl))
-      ∙ ap (λ (l : List Entry). record { at = w.at; size = length s - w.at; fate = stays } ∷ l) (entries_end (record { at = length s; level = 0; kind = 0; gone = false }) (omega arith))
+      ∙ ap (λ (l : List Entry). record { at = w.at; size = length s - w.at; fate = Stays } ∷ l) (entries_end (record { at = length s; level = 0; kind = 0; gone = false }) (omega arith))
 
-  header_rest : (w : Spot) → w.level ≡ 0 → all_zero (drop w.at s) ≡ true → w.at < length s → (x : Header) → header_at s w.at ≡ x → onto (on_header s w x) (λ w. entries_from s w) ≡ record { at = w.at; size = length s - w.at; fate = stays } ∷ []
+  header_rest : (w : Spot) → w.level ≡ 0 → all_zero (drop w.at s) ≡ true → w.at < length s → (x : Header) → header_at s w.at ≡ x → onto (on_header s w x) (λ w. entries_from s w) ≡ record { at = w.at; size = length s - w.at; fate = Stays } ∷ []
   unfolding num_at
   header_rest w l h n (Record t z e) i =
       let r = whole s w.at t z e i in
@@ -105,11 +104,11 @@ module _ (s : List ℕ) where
   header_rest w l h n Cut i = rest_entries w n
   header_rest w l h n End i = let e = end_is s w.at i in absurd (omega arith)
 
-  zeros_entry : (w : Spot) → w.level ≡ 0 → all_zero (drop w.at s) ≡ true → w.at < length s → entries_from s w ≡ record { at = w.at; size = length s - w.at; fate = stays } ∷ []
+  zeros_entry : (w : Spot) → w.level ≡ 0 → all_zero (drop w.at s) ≡ true → w.at < length s → entries_from s w ≡ record { at = w.at; size = length s - w.at; fate = Stays } ∷ []
   unfolding entry_item
   zeros_entry w l h n = entries_step s w ∙ header_rest w l h n (header_at s w.at) refl
 
-bof_five : bof_kind 0x0005 ≡ 0
+bof_five : same_kind (bof_kind 0x0005) Other ≡ true
 unfolding bof_kind pick
 bof_five = refl
 
@@ -122,14 +121,14 @@ module _ (m : Given) (u u' : ℕ) (fresh : (i : ℕ) → m.Used i → i < u → 
 
   -- ---- what stands at q of the new stream, where the old one has a place between its top-level substreams
   module _ (x K q : ℕ) (v : View m (spot x 0 K) q) where
-    done_moved : top_of s x ≡ top.Done → top_of t q ≡ top.Done
+    done_moved : top_of s x ≡ (Ok None) → top_of t q ≡ (Ok None)
     unfolding top_of
     done_moved h =
         let z = done_zeros s x h in
         let same : drop q t ≡ drop x s = v.view ∙ zeros_out s m.T m.index m.place (spot x 0 K) refl z in
-        sym (pick_true top.Done top.Done _ _ (ap all_zero same ∙ z) refl)
+        sym (pick_true (Ok None) (Ok None) _ _ (ap all_zero same ∙ z) refl)
 
-    done_echo : top_of s x ≡ top.Done → Echo m (spot x 0 K) q
+    done_echo : top_of s x ≡ (Ok None) → Echo m (spot x 0 K) q
     unfolding bytes_at
     done_echo h y my =
         let z = done_zeros s x h in
@@ -141,10 +140,10 @@ module _ (m : Given) (u u' : ℕ) (fresh : (i : ℕ) → m.Used i → i < u → 
         by z same sizes true i =
             let l = ltb-true x (length s) i in
             let at = my.at in
-            let here : ◌≡◌ {A = List Entry} (record { at = y.at; size = length t - y.at; fate = stays } ∷ []) (record { at = q; size = length s - x; fate = stays } ∷ []) =
-            ap₂ {C = List Entry} (λ (a n : ℕ). record { at = a; size = n; fate = stays } ∷ []) at (ap (λ (a : ℕ). length t - a) at ∙ sizes) in
+            let here : ◌≡◌ {A = List Entry} (record { at = y.at; size = length t - y.at; fate = Stays } ∷ []) (record { at = q; size = length s - x; fate = Stays } ∷ []) =
+            ap₂ {C = List Entry} (λ (a n : ℕ). record { at = a; size = n; fate = Stays } ∷ []) at (ap (λ (a : ℕ). length t - a) at ∙ sizes) in
             subst (λ (a : List Entry). Echoes m q a (entries_from t y)) (sym (zeros_entry s (spot x 0 K) refl z l))
-            (subst (Echoes m q (record { at = x; size = length s - x; fate = stays } ∷ []))
+            (subst (Echoes m q (record { at = x; size = length s - x; fate = Stays } ∷ []))
             (sym (zeros_entry t y my.level (ap (λ (a : ℕ). all_zero (drop a t)) at ∙ ap all_zero same ∙ z) (omega arith) ∙ here))
             (rest (omega arith) (take_all (length s - x) (drop q t) (let d = length-drop q t in omega arith))))
         by z same sizes false i =
@@ -155,7 +154,7 @@ module _ (m : Given) (u u' : ℕ) (fresh : (i : ℕ) → m.Used i → i < u → 
             (subst (Echoes m q []) (sym (entries_end t y (omega arith)))
             (none (same ∙ drop_of_length-le s l)))
 
-    module _ (k : ℕ) (h : top_of s x ≡ top.Open k) where
+    module _ (k : ℕ) (h : top_of s x ≡ Ok (Some k)) where
       bof_there : header_at t q ≡ Record 0x0809 16 (q + 20)
       bof_there = bof_header m (spot x 0 K) q v (opening s x k h).header
 
@@ -164,64 +163,66 @@ module _ (m : Given) (u u' : ℕ) (fresh : (i : ℕ) → m.Used i → i < u → 
 
       not_zeros : all_zero (drop q t) ≡ false
       unfolding num_at
-      not_zeros =
-          let w = whole t q 0x0809 16 (q + 20) bof_there in
-          let k : 0x0809 ≡ byte_at t q + 256 * (byte_at t (q + 1) + 256 * 0) = w.kind in
-          sym (zero_not t q q refl (omega arith) (λ (z : byte_at t q ≡ 0). omega arith))
+      not_zeros = by (all_zero (drop q t)) refl
+        where
+          by : (b : Bool) → all_zero (drop q t) ≡ b → b ≡ false
+          by true z =
+              let w = whole t q 0x0809 16 (q + 20) bof_there in
+              let k : 0x0809 ≡ byte_at t q + 256 * (byte_at t (q + 1) + 256 * 0) = w.kind in
+              let a : byte_at t q ≡ 0 = zeros_from t q z q (omega arith) in
+              let b : byte_at t (q + 1) ≡ 0 = zeros_from t q z (q + 1) (omega arith) in
+              absurd (omega arith)
+          by false z = refl
 
-      open_moved : top_of t q ≡ top.Open k
+      open_moved : top_of t q ≡ Ok (Some k)
       unfolding top_of
       open_moved =
-          let some = (opens s x (top.Open k) (sym h)).1 in
-          sym (pick_false (top.Open k) top.Done _ _ not_zeros (sym (ap (on_top t q) bof_there ∙ by kind_same some)))
+          let some = (opens s x (Ok (Some k)) (sym h)).1 in
+          sym (pick_false (Ok (Some k)) (Ok None) _ _ not_zeros (sym (ap (on_top t q) bof_there ∙ by kind_same some)))
         where
-          by : kind_at t q ≡ k → (bof_kind k ≡ 0 → ⊥) → on_top t q (Record 0x0809 16 (q + 20)) ≡ top.Open k
-          by i some = sym (pick_eq (top.Open k) _ _ 0x0809 0x0809 refl (pick_eq (top.Open k) _ _ 16 16 refl (pick_ne (top.Open k) _ _ (bof_kind (kind_at t q)) 0 (λ e. some (ap bof_kind (sym i) ∙ e)) (ap top.Open (sym i)))))
+          by : kind_at t q ≡ k → same_kind (bof_kind k) Other ≡ false → on_top t q (Record 0x0809 16 (q + 20)) ≡ Ok (Some k)
+          by i some = sym (pick_eq (Ok (Some k)) _ _ 0x0809 0x0809 refl (pick_eq (Ok (Some k)) _ _ 16 16 refl (pick_false (Ok (Some k)) _ _ (same_kind (bof_kind (kind_at t q)) Other) (ap (λ (n : ℕ). same_kind (bof_kind n) Other) i ∙ some) (λ j. Ok (Some (sym i j))))))
 
       -- it isn't a second globals
       later_kind : k ≡ 0x0005 → ⊥
-      later_kind i = (opens s x (top.Open k) (sym h)).1 (ap bof_kind i ∙ five)
-        where
-          five : bof_kind 0x0005 ≡ 0
-          five = bof_five
+      later_kind i =
+          let some = (opens s x (Ok (Some k)) (sym h)).1 in
+          let five : same_kind (bof_kind k) Other ≡ true = ap (λ (n : ℕ). same_kind (bof_kind n) Other) i ∙ bof_five in
+          never (cc)
 
-      substream_moved : (e : ℕ) → substream_in 4 s u k x ≡ At e → Landing m u u' fresh small (substream_in 4 t u' k) (spot x 0 K) q e 0 (spot_after s (spot x 0 K) 0x0809 (x + 20)).kind
+      substream_moved : (e : ℕ) → substream_in 4 s u k x ≡ Ok e → Landing m u u' fresh small (substream_in 4 t u' k) (spot x 0 K) q e 0 (spot_after s (spot x 0 K) 0x0809 (x + 20)).kind
       substream_moved e i = substream_moves m u u' fresh small 4 k (spot x 0 K) q e (λ _. (opening s x k h).kind) (λ n. absurd (n refl)) later_kind v (opening s x k h).header i
 
   -- ---- the walk and the list of BOFs
   pub record TopsMoved (x K q : ℕ) : Type 0 where
-    pub passed : tops_from t u' q ≡ walked.Passed
+    pub passed : tops_from t u' q ≡ Ok tt
     pub bofs : bofs_from t u' q ≡ map (moved_bof m) (bofs_from s u x)
     pub after : Every (λ (b : Bof). q ≤ m.total b.start) (bofs_from s u x)
     pub apart : BofsApart m (bofs_from s u x)
     pub echo : Echo m (spot x 0 K) q
     pub views : Every (λ (b : Bof). BofViewed m b.start) (bofs_from s u x)
 
-  stops_not : (x n o : ℕ) → tops_from s u x ≡ walked.Passed → go s u x ≡ stop (walked.Refused n o) → ⊥
-  unfolding tops_from
-  stops_not x n o h i = let f = run_stop (go s u) (walked.Refused 4 (length s)) (λ x. length s - x) (falls s u) i in never (cc)
+  stops_not : (x : ℕ) {r : Refusal} → tops_from s u x ≡ Ok tt → go s u x ≡ stop (Err r) → ⊥
+  stops_not x {r} h i = let f = tops_step s u x ∙ ap (λ (y : Next ℕ (Result (Unit {0}) Refusal)). next y (tops_from s u)) i in never (cc)
 
-  on_more : (x e : ℕ) → tops_from s u x ≡ walked.Passed → go s u x ≡ more e → tops_from s u e ≡ walked.Passed
-  unfolding tops_from
-  on_more x e h i = sym (run_more (go s u) (walked.Refused 4 (length s)) (λ x. length s - x) (falls s u) i) ∙ h
+  on_more : (x e : ℕ) → tops_from s u x ≡ Ok tt → go s u x ≡ more e → tops_from s u e ≡ Ok tt
+  on_more x e h i = sym (tops_step s u x ∙ ap (λ (y : Next ℕ (Result (Unit {0}) Refusal)). next y (tops_from s u)) i) ∙ h
 
   from_more : (q e : ℕ) → go t u' q ≡ more e → tops_from t u' q ≡ tops_from t u' e
-  unfolding tops_from
-  from_more q e i = run_more (go t u') (walked.Refused 4 (length t)) (λ x. length t - x) (falls t u') i
+  from_more q e i = tops_step t u' q ∙ ap (λ (y : Next ℕ (Result (Unit {0}) Refusal)). next y (tops_from t u')) i
 
-  from_done : (q : ℕ) → go t u' q ≡ stop walked.Passed → tops_from t u' q ≡ walked.Passed
-  unfolding tops_from
-  from_done q i = run_stop (go t u') (walked.Refused 4 (length t)) (λ x. length t - x) (falls t u') i
+  from_done : (q : ℕ) → go t u' q ≡ stop (Ok tt) → tops_from t u' q ≡ Ok tt
+  from_done q i = tops_step t u' q ∙ ap (λ (y : Next ℕ (Result (Unit {0}) Refusal)). next y (tops_from t u')) i
 
   abbrev Again : ℕ → Type 0
-  Again x = (e K q : ℕ) → length s - e < length s - x → View m (spot e 0 K) q → tops_from s u e ≡ walked.Passed → TopsMoved e K q
+  Again x = (e K q : ℕ) → length s - e < length s - x → View m (spot e 0 K) q → tops_from s u e ≡ Ok tt → TopsMoved e K q
 
-  module _ (x K q : ℕ) (v : View m (spot x 0 K) q) (h : tops_from s u x ≡ walked.Passed) (again : Again x) where
-    done_tops : top_of s x ≡ top.Done → TopsMoved x K q
+  module _ (x K q : ℕ) (v : View m (spot x 0 K) q) (h : tops_from s u x ≡ Ok tt) (again : Again x) where
+    done_tops : top_of s x ≡ (Ok None) → TopsMoved x K q
     unfolding bof_at
     done_tops i =
-        let none : bofs_from s u x ≡ [] = bofs_done s u x found.None (sym (ap (on_open s u x) i)) refl in
-        let none' : bofs_from t u' q ≡ [] = bofs_done t u' q found.None (sym (ap (on_open t u' q) (done_moved x K q v i))) refl in
+        let none : bofs_from s u x ≡ [] = bofs_done s u x None (sym (ap (on_open s u x) i)) refl in
+        let none' : bofs_from t u' q ≡ [] = bofs_done t u' q None (sym (ap (on_open t u' q) (done_moved x K q v i))) refl in
         record {
           passed = from_done q (ap (turn t u' q) (done_moved x K q v i));
           bofs = none' ∙ sym (ap (map (moved_bof m)) none);
@@ -231,15 +232,15 @@ module _ (m : Given) (u u' : ℕ) (fresh : (i : ℕ) → m.Used i → i < u → 
           views = subst (Every (λ (b : Bof). BofViewed m b.start)) (sym none) tt;
         }
 
-    open_tops : (k : ℕ) → top_of s x ≡ top.Open k → (a : Ended) → substream_in 4 s u k x ≡ a → TopsMoved x K q
+    open_tops : (k : ℕ) → top_of s x ≡ Ok (Some k) → (a : Result ℕ Refusal) → substream_in 4 s u k x ≡ a → TopsMoved x K q
     unfolding bof_at
-    open_tops k i (At e) j =
+    open_tops k i (Ok e) j =
         let l = substream_moved x K q v k i e j in
         let old : go s u x ≡ more e = ap (turn s u x) i ∙ ap back j in
         let new : go t u' q ≡ more l.end = ap (turn t u' q) (open_moved x K q v k i) ∙ ap back l.ends in
         let rest : TopsMoved e (spot_after s (spot x 0 K) 0x0809 (x + 20)).kind l.end = again e (spot_after s (spot x 0 K) 0x0809 (x + 20)).kind l.end (falls s u x e old) l.view (on_more x e h old) in
-        let some : bofs_from s u x ≡ record { start = x; kind = bof_kind k } ∷ bofs_from s u e = bofs_more s u x (found.Bof (bof_kind k) e) (sym (ap (on_open s u x) i ∙ ap (on_ended k) j)) (bof_kind k) e refl in
-        let some' : bofs_from t u' q ≡ record { start = q; kind = bof_kind k } ∷ bofs_from t u' l.end = bofs_more t u' q (found.Bof (bof_kind k) l.end) (sym (ap (on_open t u' q) (open_moved x K q v k i) ∙ ap (on_ended k) l.ends)) (bof_kind k) l.end refl in
+        let some : bofs_from s u x ≡ record { start = x; kind = bof_kind k } ∷ bofs_from s u e = bofs_more s u x (Some (record { kind = bof_kind k; end = e })) (sym (ap (on_open s u x) i ∙ ap (on_ended k) j)) (record { kind = bof_kind k; end = e }) refl in
+        let some' : bofs_from t u' q ≡ record { start = q; kind = bof_kind k } ∷ bofs_from t u' l.end = bofs_more t u' q (Some (record { kind = bof_kind k; end = l.end })) (sym (ap (on_open t u' q) (open_moved x K q v k i) ∙ ap (on_ended k) l.ends)) (record { kind = bof_kind k; end = l.end }) refl in
         let here : m.total x ≡ q = view_place m (spot x 0 K) q v in
         let ahead = onward 4 t u' k q l.end l.ends in
         record {
@@ -250,16 +251,16 @@ module _ (m : Given) (u u' : ℕ) (fresh : (i : ℕ) → m.Used i → i < u → 
           echo = l.echo rest.echo;
           views = subst (Every (λ (b : Bof). BofViewed m b.start)) (sym some) (record { kind = K; view = subst (View m (spot x 0 K)) (sym here) v }, rest.views);
         }
-    open_tops k i (Refused n o) j = absurd (stops_not x n o h (ap (turn s u x) i ∙ ap back j))
+    open_tops k i (Err r) j = absurd (stops_not x h (ap (turn s u x) i ∙ ap back j))
 
-    top_by : (y : Top) → top_of s x ≡ y → TopsMoved x K q
-    top_by (top.Open k) i = open_tops k i (substream_in 4 s u k x) refl
-    top_by top.Done i = done_tops i
-    top_by (top.Stop n o) i = absurd (stops_not x n o h (ap (turn s u x) i))
+    top_by : (y : Result (Option ℕ) Refusal) → top_of s x ≡ y → TopsMoved x K q
+    top_by (Ok (Some k)) i = open_tops k i (substream_in 4 s u k x) refl
+    top_by (Ok None) i = done_tops i
+    top_by (Err r) i = absurd (stops_not x h (ap (turn s u x) i))
 
-  tops_by : (n x K q : ℕ) → length s - x < n → View m (spot x 0 K) q → tops_from s u x ≡ walked.Passed → TopsMoved x K q
+  tops_by : (n x K q : ℕ) → length s - x < n → View m (spot x 0 K) q → tops_from s u x ≡ Ok tt → TopsMoved x K q
   tops_by zero x K q l v h = absurd (omega arith)
   tops_by (suc n) x K q l v h = top_by x K q v h (λ e K' r less v' h'. tops_by n e K' r (omega arith) v' h') (top_of s x) refl
 
-  pub tops_moved : (x K q : ℕ) → View m (spot x 0 K) q → tops_from s u x ≡ walked.Passed → TopsMoved x K q
+  pub tops_moved : (x K q : ℕ) → View m (spot x 0 K) q → tops_from s u x ≡ Ok tt → TopsMoved x K q
   tops_moved x K q v h = tops_by (suc (length s - x)) x K q (omega arith) v h

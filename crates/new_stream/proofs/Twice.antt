@@ -14,11 +14,13 @@ use Rattle.steps.proofs.Choice.{pick_by, pick_lt, pick_nlt}
 use Rattle.steps.proofs.Bools.{or_cases, or_left, or_right}
 use Rattle.byte_numbers.specs.Bytes.{u32_at, bytes_at, bytes_of}
 use Rattle.byte_numbers.proofs.Laws.{length_bytes}
-use Rattle.new_stream.specs.Entries.{Fate, stays, goes, table, text, sheet, Entry, entries_of}
+use Rattle.new_stream.specs.declared.Fate.{Fate}
+use Rattle.new_stream.specs.declared.Entry.{Entry}
+use Rattle.new_stream.specs.declared.Fate.TheVariants.{Stays, Goes, Table, Text, Sheet}
+use Rattle.new_stream.specs.Entries.{entries_of}
 use Rattle.new_stream.specs.Compact.{written, new_size, place_in, texts_in, uses, used_below, index_in, compact_with}
 use Rattle.globals.specs.declared.Globals.{Globals}
-use Rattle.workbook.specs.declared.Checked.TheVariants.{Right}
-use Rattle.workbook.specs.Check.{checked_of}
+use Rattle.workbook.specs.Check.{Right, checked_of}
 use Rattle.new_stream.specs.Parts.{Given, given_of}
 use Rattle.new_stream.proofs.Echoed.{Echoes, none, rest, gone, part, kept, label, bound, tabled}
 use Rattle.new_stream.specs.Claims.{used_of, TableOf, CompactTwice, CountsAgain}
@@ -44,7 +46,7 @@ module _ (m : Given) where
 
   -- over an entry that goes, in the old or in the new stream
   gone_place : (q p n : ℕ) (l r : List Entry) (x : ℕ) → place_in m.T r q ≡ 0 → place_in m.T r (q + place_in m.T l x) ≡ place_in m.T l x
-      → place_in m.T r (q + place_in m.T (record { at = p; size = n; fate = goes } ∷ l) x) ≡ place_in m.T (record { at = p; size = n; fate = goes } ∷ l) x
+      → place_in m.T r (q + place_in m.T (record { at = p; size = n; fate = Goes } ∷ l) x) ≡ place_in m.T (record { at = p; size = n; fate = Goes } ∷ l) x
   unfolding place_in
   gone_place q p n l r x zero-place h =
       pick_by (λ (y : ℕ). place_in m.T r (q + y) ≡ y) (ltb p x)
@@ -52,7 +54,7 @@ module _ (m : Given) where
       (λ _. let e : q + 0 ≡ q = omega arith in rw e zero-place)
 
   part_place : (q p n : ℕ) (l r : List Entry) (x : ℕ) → p < q → place_in m.T r (q + place_in m.T l x) ≡ place_in m.T l x
-      → place_in m.T (record { at = p; size = n; fate = goes } ∷ r) (q + place_in m.T l x) ≡ place_in m.T l x
+      → place_in m.T (record { at = p; size = n; fate = Goes } ∷ r) (q + place_in m.T l x) ≡ place_in m.T l x
   unfolding place_in
   part_place q p n l r x b h = sym (pick_lt (place_in m.T l x) _ _ p (q + place_in m.T l x) (omega arith) (omega arith))
 
@@ -84,13 +86,13 @@ module _ (m : Given) where
   -- a place of the new stream stays
   pub place_twice : {q : ℕ} {l r : List Entry} → Echoes m q l r → (x : ℕ) → place_in m.T r (q + place_in m.T l x) ≡ place_in m.T l x
   place_twice {q} (none d) x = none_place q x
-  place_twice {q} (rest {p = p} {n = n} some b) x = place_both q p n n n stays [] [] refl refl some (λ y. none_place (q + n) y) x
+  place_twice {q} (rest {p = p} {n = n} some b) x = place_both q p n n n Stays [] [] refl refl some (λ y. none_place (q + n) y) x
   place_twice {q} (gone {p = p} {n = n} {l = l} {r = r} e) x = gone_place q p n l r x (place_none e) (place_twice e x)
   place_twice {q} (part {p = p} {n = n} {l = l} {r = r} b e) x = part_place q p n l r x b (place_twice e x)
-  place_twice {q} (kept {p = p} {n = n} {l = l} {r = r} some e) x = place_both q p n n n stays l r refl refl some (λ y. place_twice e y) x
-  place_twice {q} (label {p = p} {n = n} {l = l} {r = r} a some b c d e) x = place_both q p n n n text l r refl refl some (λ y. place_twice e y) x
-  place_twice {q} (bound {p = p} {n = n} {l = l} {r = r} a some b c d e) x = place_both q p n n n sheet l r refl refl some (λ y. place_twice e y) x
-  place_twice {q} (tabled {p = p} {n = n} {k = k} {l = l} {r = r} a some b e) x = place_both q p n k (length m.T) table l r refl refl some (λ y. place_twice e y) x
+  place_twice {q} (kept {p = p} {n = n} {l = l} {r = r} some e) x = place_both q p n n n Stays l r refl refl some (λ y. place_twice e y) x
+  place_twice {q} (label {p = p} {n = n} {l = l} {r = r} a some b c d e) x = place_both q p n n n Text l r refl refl some (λ y. place_twice e y) x
+  place_twice {q} (bound {p = p} {n = n} {l = l} {r = r} a some b c d e) x = place_both q p n n n Sheet l r refl refl some (λ y. place_twice e y) x
+  place_twice {q} (tabled {p = p} {n = n} {k = k} {l = l} {r = r} a some b e) x = place_both q p n k (length m.T) Table l r refl refl some (λ y. place_twice e y) x
 
   -- ---- the indices of the text cells
   pub texts_echo : {q : ℕ} {l r : List Entry} → Echoes m q l r → texts_in m.t r ≡ map m.index (texts_in m.s l)

@@ -13,7 +13,11 @@ use Rattle.steps.proofs.Choice.{pick_lt, pick_nlt}
 use Rattle.steps.proofs.Bools.{or_left, or_right}
 use Rattle.byte_numbers.specs.Bytes.{num_at, u32_at, bytes_at, bytes_of}
 use Rattle.byte_numbers.proofs.Laws.{Same, num_same, stored_other, num_stored}
-use Rattle.new_stream.specs.Entries.{Spot, Fate, stays, goes, table, text, sheet, Entry, entries_from}
+use Rattle.new_stream.specs.declared.Spot.{Spot}
+use Rattle.new_stream.specs.declared.Fate.{Fate}
+use Rattle.new_stream.specs.declared.Entry.{Entry}
+use Rattle.new_stream.specs.declared.Fate.TheVariants.{Stays, Goes, Table, Text, Sheet}
+use Rattle.new_stream.specs.Entries.{entries_from}
 use Rattle.new_stream.specs.Compact.{new_bytes, written, new_size, place_in, byte_in, on_text, texts_in, uses}
 use Rattle.new_stream.specs.Parts.{Given, View, Ahead}
 use Rattle.new_stream.proofs.Entries.{Begins, begins}
@@ -42,11 +46,11 @@ module _ (s T : List ℕ) (index place : ℕ → ℕ) (p n : ℕ) (fits : p + n 
   bytes_same k h = get_or-take n (drop p s) k 0 h
 
   pub new_size_lem : (f : Fate) → length (new_bytes s T index place p n f) ≡ new_size T n f
-  new_size_lem stays = bytes_size
-  new_size_lem goes = refl
-  new_size_lem table = refl
-  new_size_lem text = length-sets (bytes_at s p n) 10 (bytes_of 4 (index (u32_at s (p + 10)))) ∙ bytes_size
-  new_size_lem sheet = length-sets (bytes_at s p n) 4 (bytes_of 4 (place (u32_at s (p + 4)))) ∙ bytes_size
+  new_size_lem Stays = bytes_size
+  new_size_lem Goes = refl
+  new_size_lem Table = refl
+  new_size_lem Text = length-sets (bytes_at s p n) 10 (bytes_of 4 (index (u32_at s (p + 10)))) ∙ bytes_size
+  new_size_lem Sheet = length-sets (bytes_at s p n) 4 (bytes_of 4 (place (u32_at s (p + 4)))) ∙ bytes_size
 
   stored_same : (i m k : ℕ) → k < n → (k < i) ⊎ (i + 4 ≤ k) → get_or (drop p s) k 0 ≡ get_or (sets (bytes_at s p n) i (bytes_of 4 m)) k 0
   stored_same i m k h o = sym (stored_other 4 m (bytes_at s p n) i k o ∙ bytes_same k h)
@@ -72,13 +76,13 @@ byte_inside T x l p h = sym (pick_lt _ _ _ p (x.at + x.size) h refl)
 -- ---- the strings that are used
 uses_on : (s : List ℕ) (p : ℕ) (f : Fate) (l : List ℕ) (i : ℕ) → uses l i ≡ true → uses (on_text s p f l) i ≡ true
 unfolding uses
-uses_on s p stays l i h = h
-uses_on s p goes l i h = h
-uses_on s p table l i h = h
-uses_on s p text l i h = or_right (eqb (u32_at s (p + 10)) i) (uses l i) h
-uses_on s p sheet l i h = h
+uses_on s p Stays l i h = h
+uses_on s p Goes l i h = h
+uses_on s p Table l i h = h
+uses_on s p Text l i h = or_right (eqb (u32_at s (p + 10)) i) (uses l i) h
+uses_on s p Sheet l i h = h
 
-uses_first : (s : List ℕ) (p : ℕ) (l : List ℕ) → uses (on_text s p text l) (u32_at s (p + 10)) ≡ true
+uses_first : (s : List ℕ) (p : ℕ) (l : List ℕ) → uses (on_text s p Text l) (u32_at s (p + 10)) ≡ true
 unfolding uses
 uses_first s p l = or_left (eqb (u32_at s (p + 10)) (u32_at s (p + 10))) (uses l (u32_at s (p + 10))) (eq-eqb (u32_at s (p + 10)) (u32_at s (p + 10)) refl)
 
@@ -142,31 +146,31 @@ module _ (m : Given) (w w' : Spot) (q n : ℕ) (f : Fate) (v : View m w q)
 
 -- ---- what stands there, by what becomes of the record
 module _ (m : Given) (w w' : Spot) (q n : ℕ) (v : View m w q) (fits : w.at + n ≤ length m.s) (later : Ahead w w' n) where
-  module _ (is : entries_from m.s w ≡ record { at = w.at; size = n; fate = stays } ∷ entries_from m.s w') where
+  module _ (is : entries_from m.s w ≡ record { at = w.at; size = n; fate = Stays } ∷ entries_from m.s w') where
     pub stays_same : Same (drop w.at m.s) (drop q m.t) 0 n
-    stays_same k a b = sym (view_bytes m w w' q n stays v is fits later k b ∙ bytes_same m.s m.T m.index m.place w.at n fits k b)
+    stays_same k a b = sym (view_bytes m w w' q n Stays v is fits later k b ∙ bytes_same m.s m.T m.index m.place w.at n fits k b)
 
-  module _ (is : entries_from m.s w ≡ record { at = w.at; size = n; fate = text } ∷ entries_from m.s w') where
+  module _ (is : entries_from m.s w ≡ record { at = w.at; size = n; fate = Text } ∷ entries_from m.s w') where
     pub text_same : (k : ℕ) → k < n → (k < 10) ⊎ (14 ≤ k) → get_or (drop w.at m.s) k 0 ≡ get_or (drop q m.t) k 0
     text_same k a o =
         stored_same m.s m.T m.index m.place w.at n fits 10 (m.index (u32_at m.s (w.at + 10))) k a o
-        ∙ sym (view_bytes m w w' q n text v is fits later k a)
+        ∙ sym (view_bytes m w w' q n Text v is fits later k a)
 
     pub text_number : 14 ≤ n → m.index (u32_at m.s (w.at + 10)) < 256 ^ 4 → num_at (drop q m.t) 4 10 ≡ m.index (u32_at m.s (w.at + 10))
     text_number l small =
-        num_same (drop q m.t) _ 4 10 (λ k a b. view_bytes m w w' q n text v is fits later k (omega arith))
+        num_same (drop q m.t) _ 4 10 (λ k a b. view_bytes m w w' q n Text v is fits later k (omega arith))
         ∙ num_stored 4 (m.index (u32_at m.s (w.at + 10))) (bytes_at m.s w.at n) 10 (let z = bytes_size m.s m.T m.index m.place w.at n fits in omega arith) small
 
     pub text_used : m.Used (u32_at m.s (w.at + 10))
-    text_used = v.used _ (ap (λ (l : List ℕ). uses l (u32_at m.s (w.at + 10))) (texts_is m w w' q n text v is fits later) ∙ uses_first m.s w.at (texts_in m.s (entries_from m.s w')))
+    text_used = v.used _ (ap (λ (l : List ℕ). uses l (u32_at m.s (w.at + 10))) (texts_is m w w' q n Text v is fits later) ∙ uses_first m.s w.at (texts_in m.s (entries_from m.s w')))
 
-  module _ (is : entries_from m.s w ≡ record { at = w.at; size = n; fate = sheet } ∷ entries_from m.s w') where
+  module _ (is : entries_from m.s w ≡ record { at = w.at; size = n; fate = Sheet } ∷ entries_from m.s w') where
     pub sheet_same : (k : ℕ) → k < n → (k < 4) ⊎ (8 ≤ k) → get_or (drop w.at m.s) k 0 ≡ get_or (drop q m.t) k 0
     sheet_same k a o =
         stored_same m.s m.T m.index m.place w.at n fits 4 (m.place (u32_at m.s (w.at + 4))) k a o
-        ∙ sym (view_bytes m w w' q n sheet v is fits later k a)
+        ∙ sym (view_bytes m w w' q n Sheet v is fits later k a)
 
     pub sheet_number : 8 ≤ n → m.place (u32_at m.s (w.at + 4)) < 256 ^ 4 → num_at (drop q m.t) 4 4 ≡ m.place (u32_at m.s (w.at + 4))
     sheet_number l small =
-        num_same (drop q m.t) _ 4 4 (λ k a b. view_bytes m w w' q n sheet v is fits later k (omega arith))
+        num_same (drop q m.t) _ 4 4 (λ k a b. view_bytes m w w' q n Sheet v is fits later k (omega arith))
         ∙ num_stored 4 (m.place (u32_at m.s (w.at + 4))) (bytes_at m.s w.at n) 4 (let z = bytes_size m.s m.T m.index m.place w.at n fits in omega arith) small

@@ -8,8 +8,7 @@ use Rattle.strings.specs.Table.{table_of}
 use Rattle.sheet_agreement.specs.Agreement.{Sheet}
 use Rattle.globals.specs.declared.Globals.{Globals}
 use Rattle.globals.specs.Sheets.{sheets_of}
-use Rattle.workbook.specs.declared.Checked.TheVariants.{Right}
-use Rattle.workbook.specs.Check.{checked_of}
+use Rattle.workbook.specs.Check.{Right, checked_of}
 use Rattle.record_chain.specs.Chain.{Chain}
 use Rattle.new_stream.specs.Entries.{entries_of}
 use Rattle.new_stream.specs.Compact.{place_in, texts_in, uses, used_below, compact_with}

@@ -3,15 +3,18 @@ use Rattle.std.specs.Prelude.{ℕ, zero, suc, ◌+◌, ◌-◌, List, [], ◌∷
 use Rattle.std.proofs.lemmas.List.Edits.{sets}
 use Rattle.steps.specs.Choice.{pick}
 use Rattle.byte_numbers.specs.Bytes.{u32_at, bytes_at, bytes_of}
-use Rattle.new_stream.specs.Entries.{Fate, stays, goes, table, text, sheet, Entry, entries_of}
+use Rattle.new_stream.specs.declared.Fate.{Fate}
+use Rattle.new_stream.specs.declared.Entry.{Entry}
+use Rattle.new_stream.specs.declared.Fate.TheVariants.{Stays, Goes, Table, Text, Sheet}
+use Rattle.new_stream.specs.Entries.{entries_of}
 
 -- ---- what is written of each record; `index` tells the new string index, `place` the new place of a BOF
 abbrev pub new_bytes : List ℕ → List ℕ → (ℕ → ℕ) → (ℕ → ℕ) → ℕ → ℕ → Fate → List ℕ
-new_bytes s T index place p n stays = bytes_at s p n
-new_bytes s T index place p n goes = []
-new_bytes s T index place p n table = T
-new_bytes s T index place p n text = sets (bytes_at s p n) 10 (bytes_of 4 (index (u32_at s (p + 10))))
-new_bytes s T index place p n sheet = sets (bytes_at s p n) 4 (bytes_of 4 (place (u32_at s (p + 4))))
+new_bytes s T index place p n Stays = bytes_at s p n
+new_bytes s T index place p n Goes = []
+new_bytes s T index place p n Table = T
+new_bytes s T index place p n Text = sets (bytes_at s p n) 10 (bytes_of 4 (index (u32_at s (p + 10))))
+new_bytes s T index place p n Sheet = sets (bytes_at s p n) 4 (bytes_of 4 (place (u32_at s (p + 4))))
 
 unfoldable pub written : List ℕ → List ℕ → (ℕ → ℕ) → (ℕ → ℕ) → List Entry → List ℕ
 written s T index place [] = []
@@ -19,11 +22,11 @@ written s T index place (x ∷ l) = new_bytes s T index place x.at x.size x.fate
 
 -- ---- where what stood at p stands now: the bytes that are written of the records before it
 abbrev pub new_size : List ℕ → ℕ → Fate → ℕ
-new_size T n stays = n
-new_size T n goes = 0
-new_size T n table = length T
-new_size T n text = n
-new_size T n sheet = n
+new_size T n Stays = n
+new_size T n Goes = 0
+new_size T n Table = length T
+new_size T n Text = n
+new_size T n Sheet = n
 
 unfoldable pub place_in : List ℕ → List Entry → ℕ → ℕ
 place_in T [] p = 0
@@ -37,11 +40,11 @@ byte_in T (x ∷ l) p = pick (ltb p (x.at + x.size)) (p - x.at) (new_size T x.si
 -- ---- the strings that are used
 -- the indices of the listed LABELSSTs, in stream order
 abbrev pub on_text : List ℕ → ℕ → Fate → List ℕ → List ℕ
-on_text s p stays l = l
-on_text s p goes l = l
-on_text s p table l = l
-on_text s p text l = u32_at s (p + 10) ∷ l
-on_text s p sheet l = l
+on_text s p Stays l = l
+on_text s p Goes l = l
+on_text s p Table l = l
+on_text s p Text l = u32_at s (p + 10) ∷ l
+on_text s p Sheet l = l
 
 unfoldable pub texts_in : List ℕ → List Entry → List ℕ
 texts_in s [] = []

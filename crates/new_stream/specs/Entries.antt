@@ -6,45 +6,41 @@ use Rattle.record.specs.declared.Header.{Header}
 use Rattle.record.specs.declared.Header.TheVariants.{Record, Cut, End}
 use Rattle.record.specs.Record.{header_at}
 use Rattle.substream.specs.Substream.{kind_at}
-
--- Where a record stands: its place, inside how many substreams (0: between those at the top level), the kind of the top-level substream, and whether
--- the record before it is gone.
-pub record Spot : Type 0 where
-  pub at : ℕ
-  pub level : ℕ
-  pub kind : ℕ
-  pub gone : Bool
-
--- its bytes stay; it is left out; the new string table stands in its place; it gets a new string index; it gets a new BOF position
-pub data Fate : Type 0 where
-  stays : Fate
-  goes : Fate
-  table : Fate
-  text : Fate
-  sheet : Fate
+use Rattle.new_stream.specs.declared.Spot.{Spot}
+use Rattle.new_stream.specs.declared.Fate.{Fate}
+use Rattle.new_stream.specs.declared.Fate.TheVariants.{Stays, Goes, Table, Text, Sheet}
+use Rattle.new_stream.specs.declared.Entry.{Entry}
 
 -- in the globals: EXTSST, SST, BOUNDSHEET
 unfoldable pub in_globals : ℕ → Fate
-in_globals t = pick (eqb t 0x00FF) goes (pick (eqb t 0x00FC) table (pick (eqb t 0x0085) sheet stays))
+in_globals t = pick (eqb t 0x00FF) Goes (pick (eqb t 0x00FC) Table (pick (eqb t 0x0085) Sheet Stays))
 
 -- directly in a later top-level substream: INDEX, and in a worksheet LABELSST
 unfoldable pub in_later : ℕ → ℕ → Fate
-in_later kind t = pick (eqb t 0x020B) goes (pick (eqb kind 0x0010) (pick (eqb t 0x00FD) text stays) stays)
+in_later kind t = pick (eqb t 0x020B) Goes (pick (eqb kind 0x0010) (pick (eqb t 0x00FD) Text Stays) Stays)
 
 -- of a record of type t: a CONTINUE goes with the record before it
 unfoldable pub fate_of : Spot → ℕ → Fate
 fate_of w t =
-    pick (eqb t 0x003C) (pick w.gone goes stays)
+    pick (eqb t 0x003C) (pick w.gone Goes Stays)
     (pick (eqb w.level 1) (pick (eqb w.kind 0x0005) (in_globals t) (in_later w.kind t))
-    stays)
+    Stays)
 
 -- the CONTINUEs right after it go as well
 abbrev pub parts : Fate → Bool
-parts stays = false
-parts goes = true
-parts table = true
-parts text = false
-parts sheet = false
+parts Stays = false
+parts Goes = true
+parts Table = true
+parts Text = false
+parts Sheet = false
+
+-- what a record of z bytes adds to the new stream, where the new table has n
+abbrev pub size_for : ℕ → ℕ → Fate → ℕ
+size_for n z Stays = z
+size_for n z Goes = 0
+size_for n z Table = n
+size_for n z Text = z
+size_for n z Sheet = z
 
 -- a BOF leads inside, an EOF outside
 unfoldable pub level_after : ℕ → ℕ → ℕ
@@ -59,20 +55,18 @@ spot_after s w t e = record {
   gone = parts (fate_of w t);
 }
 
--- a record: where its header stands, the bytes of header and body, what becomes of it
-pub record Entry : Type 0 where
-  pub at : ℕ
-  pub size : ℕ
-  pub fate : Fate
-
 unfoldable pub record_item : List ℕ → Spot → ℕ → ℕ → ℕ → Item Spot Entry
 record_item s w t z e = gives (record { at = w.at; size = 4 + z; fate = fate_of w t }) (spot_after s w t e)
+
+-- between those at the top level
+abbrev pub top : ℕ → Spot
+top at = record { at = at; level = 0; kind = 0; gone = false }
 
 -- what stands after the last top-level substream stays, as one entry
 unfoldable pub rest_item : List ℕ → Spot → Item Spot Entry
 rest_item s w =
     pick (leb (length s) w.at) ends
-    (gives (record { at = w.at; size = length s - w.at; fate = stays }) (record { at = length s; level = 0; kind = 0; gone = false }))
+    (gives (record { at = w.at; size = length s - w.at; fate = Stays }) (top (length s)))
 
 abbrev pub on_header : List ℕ → Spot → Header → Item Spot Entry
 on_header s w (Record t z e) = pick (eqb w.level 0) (pick (eqb t 0x0809) (record_item s w t z e) (rest_item s w)) (record_item s w t z e)
@@ -86,7 +80,7 @@ unfoldable pub entries_from : List ℕ → Spot → List Entry
 entries_from s w = collect (entry_item s) (λ w. length s - w.at) w
 
 abbrev pub start : Spot
-start = record { at = 0; level = 0; kind = 0; gone = false }
+start = top 0
 
 abbrev pub entries_of : List ℕ → List Entry
 entries_of s = entries_from s start

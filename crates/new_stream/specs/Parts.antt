@@ -6,7 +6,8 @@ use Rattle.sheet_agreement.specs.Agreement.{Sheet, Bof}
 use Rattle.reading.specs.Claims.{Every}
 use Rattle.globals.specs.declared.Globals.{Globals}
 use Rattle.globals.specs.Sheets.{sheets_of}
-use Rattle.new_stream.specs.Entries.{Spot, entries_from, entries_of}
+use Rattle.new_stream.specs.declared.Spot.{Spot}
+use Rattle.new_stream.specs.Entries.{entries_from, entries_of}
 use Rattle.new_stream.specs.Compact.{written, place_in, byte_in, texts_in, uses, index_in, compact_with}
 
 -- What the laws are given: the old and the new stream, the new table, the new index of a string, what is written as the new place of a BOF, the new

@@ -23,8 +23,7 @@ use Rattle.value.specs.declared.CellValue.TheVariants as value
 use Rattle.cell.specs.declared.Cell.{Cell}
 use Rattle.globals.specs.declared.Globals.{Globals}
 use Rattle.globals.proofs.Table.{Stands, table_told}
-use Rattle.workbook.specs.declared.Checked.TheVariants.{Right}
-use Rattle.workbook.specs.Check.{checked_of, on_checked}
+use Rattle.workbook.specs.Check.{Right, checked_of, on_checked}
 use Rattle.reading.specs.Reading.{strings_at, listed_of, reading_of}
 use Rattle.record_chain.specs.Chain.{Every}
 use Rattle.record_chain.proofs.Sheets.{passing}

@@ -8,7 +8,11 @@ use lib.ListN.{length}
 use Rattle.steps.specs.Choice.{pick}
 use Rattle.steps.specs.Items.{Item, gives, skips, ends, onto, collect_f, collect}
 use Rattle.table_texts.specs.Texts.{Text, kept}
-use Rattle.new_stream.specs.Entries.{Spot, Fate, stays, goes, table, text, sheet, Entry, entry_item, entries_from, start, entries_of}
+use Rattle.new_stream.specs.declared.Spot.{Spot}
+use Rattle.new_stream.specs.declared.Fate.{Fate}
+use Rattle.new_stream.specs.declared.Entry.{Entry}
+use Rattle.new_stream.specs.declared.Fate.TheVariants as fate
+use Rattle.new_stream.specs.Entries.{entry_item, entries_from, start, entries_of}
 use Rattle.new_stream.specs.Compact.{on_text, texts_in, uses, used_below}
 use Rattle.new_reading.specs.Retexted.{used_texts}
 use Rattle.new_table.specs.NewTable.{marks_from}
@@ -109,11 +113,11 @@ texts_below s [] = omega arith
 texts_below s (x ∷ l) = by x.fate (texts_below s l)
   where
     by : (f : Fate) → length (texts_in s l) ≤ length l → length (on_text s x.at f (texts_in s l)) ≤ suc (length l)
-    by stays h = omega arith
-    by goes h = omega arith
-    by table h = omega arith
-    by text h = omega arith
-    by sheet h = omega arith
+    by fate.Stays h = omega arith
+    by fate.Goes h = omega arith
+    by fate.Table h = omega arith
+    by fate.Text h = omega arith
+    by fate.Sheet h = omega arith
 
 collect_few : (s : List ℕ) (n : ℕ) (w : Spot) → length (collect_f (entry_item s) n w) ≤ n
 unfolding collect_f

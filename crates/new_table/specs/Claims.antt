@@ -6,8 +6,7 @@ use Rattle.cell.specs.declared.Cell.{Cell}
 use Rattle.sheet_agreement.specs.Agreement.{Sheet}
 use Rattle.globals.specs.declared.Globals.{Globals}
 use Rattle.globals.specs.Sheets.{sheets_of}
-use Rattle.workbook.specs.declared.Checked.TheVariants.{Right}
-use Rattle.workbook.specs.Check.{checked_of}
+use Rattle.workbook.specs.Check.{Right, checked_of}
 use Rattle.reading.specs.Reading.{listed_of, reading_of}
 use Rattle.record_chain.specs.Chain.{Every, Nth}
 use Rattle.new_stream.specs.Compact.{compact_with}

@@ -14,8 +14,7 @@ use Rattle.steps.proofs.Choice.{never, pick_by, pick_eq, pick_ne, pick_le, pick_
 use Rattle.number.specs.Float64.{in_units, float_sign, float_size}
 use Rattle.number.proofs.Units.{units_small}
 use Rattle.number.proofs.Packing.{cut_div, cut_whole, whole_cut}
-use Rattle.number.specs.declared.Amount.{Amount}
-use Rattle.number.specs.declared.Amount.TheVariants.{Is, Unfit}
+use Rattle.std.specs.Prelude.{Option, Some, None}
 use Rattle.number.specs.Amount.{amount_of}
 
 -- ---- the fields as the code takes them out
@@ -31,36 +30,36 @@ significand_fits b = omega (arith, significand_lt b)
 -- ---- the cases of the definition
 module _ (limit b : ℕ) where
   -- the size is no whole number
-  not_whole : (float_size b % 2 ^ 1074 ≡ 0 → ⊥) → Unfit ≡ amount_of limit b
+  not_whole : (float_size b % 2 ^ 1074 ≡ 0 → ⊥) → None ≡ amount_of limit b
   unfolding amount_of
   not_whole n =
-      pick_by (λ (x : Amount). Unfit ≡ x) (float_sign b) (λ _. refl)
-      (λ _. pick_by (λ (x : Amount). Unfit ≡ x) _ (λ _. refl) (λ _. pick_ne _ _ _ _ _ n refl))
+      pick_by (λ (x : Option ℕ). None ≡ x) (float_sign b) (λ _. refl)
+      (λ _. pick_by (λ (x : Option ℕ). None ≡ x) _ (λ _. refl) (λ _. pick_ne _ _ _ _ _ n refl))
 
   -- it is over the limit
-  over : limit < float_size b / 2 ^ 1074 → Unfit ≡ amount_of limit b
+  over : limit < float_size b / 2 ^ 1074 → None ≡ amount_of limit b
   unfolding amount_of
   over l =
-      pick_by (λ (x : Amount). Unfit ≡ x) (float_sign b) (λ _. refl)
-      (λ _. pick_by (λ (x : Amount). Unfit ≡ x) _ (λ _. refl)
-      (λ _. pick_by (λ (x : Amount). Unfit ≡ x) _ (λ _. pick_nle _ _ _ _ _ l refl) (λ _. refl)))
+      pick_by (λ (x : Option ℕ). None ≡ x) (float_sign b) (λ _. refl)
+      (λ _. pick_by (λ (x : Option ℕ). None ≡ x) _ (λ _. refl)
+      (λ _. pick_by (λ (x : Option ℕ). None ≡ x) _ (λ _. pick_nle _ _ _ _ _ l refl) (λ _. refl)))
 
   -- minus, or no finite number
-  minus : 2 ^ 63 ≤ b → Unfit ≡ amount_of limit b
+  minus : 2 ^ 63 ≤ b → None ≡ amount_of limit b
   unfolding amount_of
   minus l = pick_le _ _ _ _ _ l refl
 
-  not_finite : 2047 * 2 ^ 52 ≤ b % 2 ^ 63 → Unfit ≡ amount_of limit b
+  not_finite : 2047 * 2 ^ 52 ≤ b % 2 ^ 63 → None ≡ amount_of limit b
   unfolding amount_of
-  not_finite l = pick_by (λ (x : Amount). Unfit ≡ x) (float_sign b) (λ _. refl) (λ _. pick_le _ _ _ _ _ l refl)
+  not_finite l = pick_by (λ (x : Option ℕ). None ≡ x) (float_sign b) (λ _. refl) (λ _. pick_le _ _ _ _ _ l refl)
 
-  is_amount : (m : ℕ) → b / 2 ^ 52 < 2047 → float_size b % 2 ^ 1074 ≡ 0 → float_size b / 2 ^ 1074 ≡ m → m ≤ limit → Is m ≡ amount_of limit b
+  is_amount : (m : ℕ) → b / 2 ^ 52 < 2047 → float_size b % 2 ^ 1074 ≡ 0 → float_size b / 2 ^ 1074 ≡ m → m ≤ limit → Some m ≡ amount_of limit b
   unfolding amount_of
   is_amount m f w e l =
       pick_nle _ _ _ (2 ^ 63) b (omega arith)
       (pick_nle _ _ _ (2047 * 2 ^ 52) (b % 2 ^ 63) (omega arith)
       (pick_eq _ _ _ _ _ w
-      (pick_le _ _ _ (float_size b / 2 ^ 1074) limit (rw e l) (ap Is (sym e)))))
+      (pick_le _ _ _ (float_size b / 2 ^ 1074) limit (rw e l) (ap Some (sym e)))))
 
 -- ---- the exponent's field
 field_is : (b : ℕ) → b / 2 ^ 52 < 2048 → b % 2 ^ 63 / 2 ^ 52 ≡ b / 2 ^ 52
@@ -82,20 +81,20 @@ units_large (suc x) t l =
 
 -- ---- as the code finds them
 module _ (limit b : ℕ) where
-  pub zero_amount : b ≡ 0 → Is 0 ≡ amount_of limit b
+  pub zero_amount : b ≡ 0 → Some 0 ≡ amount_of limit b
   zero_amount e = rw e (is_amount limit 0 0 (omega arith) refl refl (omega arith))
 
-  pub too_small : (b ≡ 0 → ⊥) → b / 4503599627370496 < 1023 → Unfit ≡ amount_of limit b
+  pub too_small : (b ≡ 0 → ⊥) → b / 4503599627370496 < 1023 → None ≡ amount_of limit b
   too_small n l =
       let u = size_units b (omega arith) in
       not_whole limit b
       (λ z. units_pos (b / 2 ^ 52) (b % 2 ^ 52) (λ h. n (omega arith))
       (sym (mod-eq_of_lt (units_small (b / 2 ^ 52) (b % 2 ^ 52) l (mod-lt b (pow_pos 52)))) ∙ ap (λ (y : ℕ). y % 2 ^ 1074) (sym u) ∙ z))
 
-  pub too_large : limit < 4294967296 → 1054 < b / 4503599627370496 → Unfit ≡ amount_of limit b
+  pub too_large : limit < 4294967296 → 1054 < b / 4503599627370496 → None ≡ amount_of limit b
   too_large f l = go (leb (2 ^ 63) b) refl (leb (2047 * 2 ^ 52) (b % 2 ^ 63)) refl
     where
-      go : (x : Bool) → leb (2 ^ 63) b ≡ x → (y : Bool) → leb (2047 * 2 ^ 52) (b % 2 ^ 63) ≡ y → Unfit ≡ amount_of limit b
+      go : (x : Bool) → leb (2 ^ 63) b ≡ x → (y : Bool) → leb (2047 * 2 ^ 52) (b % 2 ^ 63) ≡ y → None ≡ amount_of limit b
       go true h y i = minus limit b (leb-true (2 ^ 63) b h)
       go false h true i = not_finite limit b (leb-true (2047 * 2 ^ 52) (b % 2 ^ 63) i)
       go false h false i =
@@ -129,29 +128,29 @@ module _ (limit b : ℕ) (lo : 1023 ≤ b / 4503599627370496) (hi : b / 45035996
   div_is : float_size b / 2 ^ 1074 ≡ size_of b
   div_is = ap (λ (n : ℕ). n / 2 ^ 1074) size_is ∙ cut_div (significand_of b) (1075 - x) (x - 1) sum_is
 
-  pub fraction : (back_of b ≡ significand_of b → ⊥) → Unfit ≡ amount_of limit b
+  pub fraction : (back_of b ≡ significand_of b → ⊥) → None ≡ amount_of limit b
   fraction n = not_whole limit b (λ z. n (back_is ∙ whole_cut (significand_of b) (1075 - x) (x - 1) sum_is (sym (ap (λ (n : ℕ). n % 2 ^ 1074) size_is) ∙ z)))
 
-  pub too_much : {w : ℕ} → w ≡ limit → w < size_of b → Unfit ≡ amount_of limit b
-  too_much e l = over limit b (rw (div_is, ← e) l)
+  pub too_much : limit < size_of b → None ≡ amount_of limit b
+  too_much l = over limit b (rw div_is l)
 
-  pub whole_amount : {w : ℕ} → w ≡ limit → size_of b ≤ w → back_of b ≡ significand_of b → Is (size_of b) ≡ amount_of limit b
-  whole_amount e l back =
+  pub whole_amount : size_of b ≤ limit → back_of b ≡ significand_of b → Some (size_of b) ≡ amount_of limit b
+  whole_amount l back =
       is_amount limit b (size_of b) (omega arith)
       (ap (λ (n : ℕ). n % 2 ^ 1074) size_is ∙ cut_whole (significand_of b) (1075 - x) (x - 1) sum_is (sym back_is ∙ back))
-      div_is (rw e at l)
+      div_is l
 
 pub ruleset amount_laws = (significand_fits, zero_amount, too_small, too_large, fraction, too_much, whole_amount)
 
 -- ---- a number is within its limit
 module _ (limit n : ℕ) where
-  abbrev Within : Amount → Type 0
-  Within x = x ≡ Is n → n ≤ limit
+  abbrev Within : Option ℕ → Type 0
+  Within x = x ≡ Some n → n ≤ limit
 
-  no_amount : Within Unfit
+  no_amount : Within None
   no_amount e = never (cc)
 
-  pub amount_within : (b : ℕ) → amount_of limit b ≡ Is n → n ≤ limit
+  pub amount_within : (b : ℕ) → amount_of limit b ≡ Some n → n ≤ limit
   unfolding amount_of
   amount_within b =
       pick_by Within _ (λ _. no_amount)

@@ -23,7 +23,7 @@ use Rattle.steps.proofs.Choice.{pick_any}
 use Rattle.number.specs.Float64.{is_nan_bits, float_sign, float_size}
 use Rattle.number.specs.Rk.{is_whole, whole_sign, whole_size, float_bits, rk_sign, rk_size, quotient_bits, is_divided, rk_bits, means_nothing, rk_of}
 use Rattle.number.specs.Rounding.{rounded, signed}
-use Rattle.number.specs.declared.Rk.TheVariants.{Number, Nothing}
+use Rattle.std.specs.Prelude.{Some, None}
 use Rattle.number.proofs.Rounding.{round_of, rounded_lt, rounded_number}
 use Rattle.number.proofs.Float64.{nan_float, not_T, pattern_number}
 use Rattle.number.proofs.Units.{Finite, finite_value, finite_number, finite_hundredth, size_rounded}
@@ -323,7 +323,7 @@ rk_pattern w f m = go (is_divided w)
     go true = divided_pattern w f m
     go false = undivided_pattern w f m
 
-pub decoded_nothing : (w : ℕ) (t : Bool) → t ≡ means_nothing w → t ≡ true → Nothing ≡ rk_of w
+pub decoded_nothing : (w : ℕ) (t : Bool) → t ≡ means_nothing w → t ≡ true → None ≡ rk_of w
 unfolding rk_of pick
 decoded_nothing w t h e = rw (← h, e)
 
@@ -331,7 +331,7 @@ module _ (w b : ℕ) (t : Bool) (f : w < 2 ^ 32) (h : t ≡ means_nothing w) (e 
   pub decoded_number : T (not (nan_bits binary64 b))
   decoded_number = pattern_number b (ap is_nan_bits i ∙ (rk_pattern w f (sym h ∙ e)).1)
 
-  pub decoded : Number (of_bits binary64 b) ≡ rk_of w
+  pub decoded : Some (of_bits binary64 b) ≡ rk_of w
   unfolding rk_of pick
   decoded = let m : means_nothing w ≡ false = sym h ∙ e in rw (m, i)
 

@@ -8,7 +8,8 @@ use lib.Ieee.{Float, nan, inf, fin, binary64, ne, of_bits, to_bits, is_nan, nan_
 use lib.Ieee.Bits.{nan_bits_is, nan_bits_above}
 use lib.Ieee.Compare.{differs_from_itself, nan_differs}
 use Rattle.steps.specs.Choice.{pick}
-use Rattle.number.specs.Float64.{is_nan_bits, bits_of}
+use Rattle.std.specs.Prelude.{Some, None}
+use Rattle.number.specs.Float64.{is_nan_bits, float_in, bits_of}
 
 pub nan_bits_lem : (b : ℕ) → is_nan_bits b ≡ nan_bits binary64 b
 unfolding is_nan_bits
@@ -39,6 +40,14 @@ masked_nan b = ap (λ (n : ℕ). ltb (2047 * 2 ^ 52) n) (and_mask b 63)
 pub pattern_number : (b : ℕ) → is_nan_bits b ≡ false → T (not (nan_bits binary64 b))
 pattern_number b e = not_T (nan_bits binary64 b) (sym (nan_bits_lem b) ∙ e)
 
+pub no_float : (b : ℕ) → is_nan_bits b ≡ true → None ≡ float_in b
+unfolding float_in pick
+no_float b e = rw e
+
+pub float_there : (b : ℕ) → is_nan_bits b ≡ false → Some (of_bits binary64 b) ≡ float_in b
+unfolding float_in pick
+float_there b e = rw e
+
 pub differs : (x : Float) → ne x x ≡ true → 0x7FF8_0000_0000_0000 ≡ bits_of x
 unfolding bits_of pick is_nan
 differs x e = ap bits_of (sym (differs_from_itself x (rw e tt)))
@@ -52,4 +61,4 @@ no_nan (fin s m k) e = tt
 pub bits_of_number : (x : Float) → to_bits binary64 x ≡ bits_of x
 bits_of_number x = sym (bits_of_is x)
 
-pub ruleset float64_laws = (masked_nan, pattern_number, differs, no_nan, bits_of_number)
+pub ruleset float64_laws = (masked_nan, pattern_number, no_float, float_there, differs, no_nan, bits_of_number)

@@ -9,8 +9,7 @@ use Rattle.steps.specs.Choice.{pick}
 use Rattle.number.specs.Float64.{is_nan_bits, bits_of}
 use Rattle.number.specs.Rk.{rk_bits, means_nothing, rk_of}
 use Rattle.number.specs.Packing.{pack_of}
-use Rattle.number.specs.declared.Rk.TheVariants.{Number, Nothing}
-use Rattle.number.specs.declared.Packed.TheVariants.{Word}
+use Rattle.std.specs.Prelude.{Some, None}
 use Rattle.number.proofs.Float64.{nan_float, not_T, bits_of_is}
 use Rattle.number.proofs.Decoding.{rk_pattern}
 pub use Rattle.number.proofs.Float64.{nan_told}
@@ -36,16 +35,16 @@ rk_bits_lt w f m = (rk_pattern w f m).0
 pub rk_bits_number : (w : ℕ) → w < 2 ^ 32 → means_nothing w ≡ false → is_nan_bits (rk_bits w) ≡ false
 rk_bits_number w f m = (rk_pattern w f m).1
 
-pub rk_number : (w : ℕ) → means_nothing w ≡ false → rk_of w ≡ Number (of_bits binary64 (rk_bits w))
+pub rk_number : (w : ℕ) → means_nothing w ≡ false → rk_of w ≡ Some (of_bits binary64 (rk_bits w))
 unfolding rk_of pick
 rk_number w m = rw m
 
-pub rk_nothing : (w : ℕ) → means_nothing w ≡ true → rk_of w ≡ Nothing
+pub rk_nothing : (w : ℕ) → means_nothing w ≡ true → rk_of w ≡ None
 unfolding rk_of pick
 rk_nothing w m = rw m
 
 -- ---- packing, with `sound`, `complete` and `refused_exactly`
 
 -- the word that is given decodes to the number
-pub packed_number : (b w : ℕ) → b < 2 ^ 64 → pack_of b ≡ Word w → rk_of w ≡ Number (of_bits binary64 b)
-packed_number b w f e = let m = sound b w f e in rk_number w m.meant ∙ ap (λ (n : ℕ). Number (of_bits binary64 n)) m.bits
+pub packed_number : (b w : ℕ) → b < 2 ^ 64 → pack_of b ≡ Some w → rk_of w ≡ Some (of_bits binary64 b)
+packed_number b w f e = let m = sound b w f e in rk_number w m.meant ∙ ap (λ (n : ℕ). Some (of_bits binary64 n)) m.bits

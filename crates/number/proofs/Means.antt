@@ -17,13 +17,12 @@ use Rattle.number.specs.Float64.{float_sign, float_size}
 use Rattle.number.specs.Rk.{is_whole, whole_sign, whole_size, float_bits, rk_sign, rk_size, quotient_bits, rk_bits, means_nothing}
 use Rattle.number.specs.Rounding.{rounded, signed}
 use Rattle.number.specs.Packing.{Means, in_range, thirty_bits, whole_form, pack_of}
-use Rattle.number.specs.declared.Packed.{Packed}
-use Rattle.number.specs.declared.Packed.TheVariants.{Word, Unpacked}
+use Rattle.std.specs.Prelude.{Option, Some, None}
 use Rattle.number.proofs.Units.{Finite, finite_value, size_rounded, units_some, one_value, value_finite}
 use Rattle.number.proofs.Decoding.{undivided_value}
 use Rattle.number.proofs.Packing.{whole_word}
 
-word_never : {A : Type 0} (w : ℕ) → Word w ≡ Unpacked → A
+word_never : {A : Type 0} (w : ℕ) → Some w ≡ None → A
 word_never w e = absurd (let z : ◌≡◌ {A = ℕ} 0 1 = cc in omega arith)
 
 undivided_bits : (w : ℕ) → w % 2 ≡ 0 → rk_bits w ≡ quotient_bits w 1
@@ -83,14 +82,14 @@ whole_means b s m f p q o r = record {
 }
 
 -- of a number whose lower 34 bits are not all zero
-whole_form_means : (b w : ℕ) → b < 2 ^ 64 → (b % 2 ^ 34 ≡ 0 → ⊥) → whole_form b ≡ Word w → Means w b
+whole_form_means : (b w : ℕ) → b < 2 ^ 64 → (b % 2 ^ 34 ≡ 0 → ⊥) → whole_form b ≡ Some w → Means w b
 unfolding whole_form pick
 whole_form_means b w f g = go (eqb (float_size b % 2 ^ 1074) 0) (in_range (float_sign b) (float_size b / 2 ^ 1074)) refl refl
   where
     m : ℕ
     m = float_size b / 2 ^ 1074
 
-    go : (z i : Bool) → eqb (float_size b % 2 ^ 1074) 0 ≡ z → in_range (float_sign b) m ≡ i → pick (z && i) (Word (thirty_bits (float_sign b) m * 4 + 2)) Unpacked ≡ Word w → Means w b
+    go : (z i : Bool) → eqb (float_size b % 2 ^ 1074) 0 ≡ z → in_range (float_sign b) m ≡ i → pick (z && i) (Some (thirty_bits (float_sign b) m * 4 + 2)) None ≡ Some w → Means w b
     go true true p q e =
         let n : float_size b ≡ m * 2 ^ 1074 = sym (div-add-mod' (float_size b) (2 ^ 1074)) ∙ rw (eqb-true (float_size b % 2 ^ 1074) 0 p, add-zero) in
         let some : m ≡ 0 → ⊥ = λ k. units_some (b % 2 ^ 63 / 2 ^ 52) (b % 2 ^ 52) (λ z. g (omega arith)) (n ∙ rw (k, zero-mul)) in
@@ -99,15 +98,15 @@ whole_form_means b w f g = go (eqb (float_size b % 2 ^ 1074) 0) (in_range (float
     go true false p q e = word_never w (sym e)
     go false i p q e = word_never w (sym e)
 
-pub sound : (b w : ℕ) → b < 2 ^ 64 → pack_of b ≡ Word w → Means w b
+pub sound : (b w : ℕ) → b < 2 ^ 64 → pack_of b ≡ Some w → Means w b
 unfolding pack_of
 sound b w f =
-    pick_by (λ (r : Packed). r ≡ Word w → Means w b) (eqb (b / 2 ^ 52 % 2 ^ 11) 2047) (λ h e. word_never w (sym e))
-    (λ h. pick_by (λ (r : Packed). r ≡ Word w → Means w b) (eqb (b % 2 ^ 34) 0)
+    pick_by (λ (r : Option ℕ). r ≡ Some w → Means w b) (eqb (b / 2 ^ 52 % 2 ^ 11) 2047) (λ h e. word_never w (sym e))
+    (λ h. pick_by (λ (r : Option ℕ). r ≡ Some w → Means w b) (eqb (b % 2 ^ 34) 0)
     (λ g e. float_word g h e)
     (λ g. whole_form_means b w f (eqb-false (b % 2 ^ 34) 0 g)))
   where
-    float_word : eqb (b % 2 ^ 34) 0 ≡ true → eqb (b / 2 ^ 52 % 2 ^ 11) 2047 ≡ false → Word (b / 2 ^ 32) ≡ Word w → Means w b
+    float_word : eqb (b % 2 ^ 34) 0 ≡ true → eqb (b / 2 ^ 52 % 2 ^ 11) 2047 ≡ false → Some (b / 2 ^ 32) ≡ Some w → Means w b
     float_word g h e = let w-is : b / 2 ^ 32 ≡ w = cc in rw w-is at (float_means b f (eqb-false (b / 2 ^ 52 % 2 ^ 11) 2047 h) (eqb-true (b % 2 ^ 34) 0 g))
 
 whole_number : (w : ℕ) → is_whole w ≡ true → (rk_sign w ≡ whole_sign (w / 4)) × (rk_size w ≡ whole_size (w / 4) * 2 ^ 1074)
@@ -122,11 +121,11 @@ in_range_lem v h = go (leb (2 ^ 29) v) refl
     go true e = le-leb (2 ^ 30 - v) (2 ^ 29) (omega (arith, leb-true (2 ^ 29) v e))
     go false e = lt-ltb v (2 ^ 29) (leb-false (2 ^ 29) v e)
 
-pub complete : (b w : ℕ) → Means w b → pack_of b ≡ Unpacked → ⊥
+pub complete : (b w : ℕ) → Means w b → pack_of b ≡ None → ⊥
 unfolding pack_of
 complete b w m =
-    pick_by (λ (r : Packed). r ≡ Unpacked → ⊥) (eqb (b / 2 ^ 52 % 2 ^ 11) 2047) (λ h e. finite (Pow.field b 11 52 ∙ eqb-true (b / 2 ^ 52 % 2 ^ 11) 2047 h))
-    (λ h. pick_by (λ (r : Packed). r ≡ Unpacked → ⊥) (eqb (b % 2 ^ 34) 0) (λ g. word_never (b / 2 ^ 32)) (λ g. by (is_whole w) refl (eqb-false (b % 2 ^ 34) 0 g)))
+    pick_by (λ (r : Option ℕ). r ≡ None → ⊥) (eqb (b / 2 ^ 52 % 2 ^ 11) 2047) (λ h e. finite (Pow.field b 11 52 ∙ eqb-true (b / 2 ^ 52 % 2 ^ 11) 2047 h))
+    (λ h. pick_by (λ (r : Option ℕ). r ≡ None → ⊥) (eqb (b % 2 ^ 34) 0) (λ g. word_never (b / 2 ^ 32)) (λ g. by (is_whole w) refl (eqb-false (b % 2 ^ 34) 0 g)))
   where
     bits_are : quotient_bits w 1 ≡ b
     bits_are = sym (undivided_bits w m.undivided) ∙ m.bits
@@ -140,7 +139,7 @@ complete b w m =
     same : (float_sign b ≡ rk_sign w) × (float_size b ≡ rk_size w)
     same = one_value (of_bits binary64 b) (float_sign b) (rk_sign w) (float_size b) (rk_size w) (finite_value b finite) value
 
-    by : (t : Bool) → is_whole w ≡ t → (b % 2 ^ 34 ≡ 0 → ⊥) → whole_form b ≡ Unpacked → ⊥
+    by : (t : Bool) → is_whole w ≡ t → (b % 2 ^ 34 ≡ 0 → ⊥) → whole_form b ≡ None → ⊥
     by true i g e =
         let n = whole_number w i in
         let v = w / 4 in
@@ -153,9 +152,9 @@ complete b w m =
     by false i g e = g (omega (arith, sym bits_are ∙ float_bits_lem w m.fits i))
 
 -- it is refused exactly where no undivided word means it
-pub refused_exactly : (b : ℕ) → b < 2 ^ 64 → (pack_of b ≡ Unpacked) ↔ ((w : ℕ) → Means w b → ⊥)
+pub refused_exactly : (b : ℕ) → b < 2 ^ 64 → (pack_of b ≡ None) ↔ ((w : ℕ) → Means w b → ⊥)
 refused_exactly b f = (λ e w m. complete b w m e, λ none. go none (pack_of b) refl)
   where
-    go : ((w : ℕ) → Means w b → ⊥) → (r : Packed) → pack_of b ≡ r → r ≡ Unpacked
-    go none (Word w) e = absurd (none w (sound b w f e))
-    go none Unpacked e = refl
+    go : ((w : ℕ) → Means w b → ⊥) → (r : Option ℕ) → pack_of b ≡ r → r ≡ None
+    go none (Some w) e = absurd (none w (sound b w f e))
+    go none None e = refl

@@ -14,8 +14,7 @@ use borrow.Author.Tests.{lt-leb, le-leb, lt-ltb, le-ltb, eq-eqb, ne_eqb}
 use Rattle.steps.specs.Choice.{pick}
 use Rattle.number.specs.Float64.{in_units, float_sign, float_size}
 use Rattle.number.specs.Packing.{in_range, thirty_bits, whole_form, pack_of}
-use Rattle.number.specs.declared.Packed.{Packed}
-use Rattle.number.specs.declared.Packed.TheVariants.{Word, Unpacked}
+use Rattle.std.specs.Prelude.{Option, Some, None}
 use Rattle.number.proofs.Units.{units_small, units_large, units_some}
 
 -- ---- the fields as the code masks them out
@@ -40,7 +39,7 @@ size_units b = ap (λ (x : ℕ). in_units x (b % 2 ^ 52)) (Pow.field b 11 52 ∙
 
 -- ---- the cases of the definition
 
-pub not_finite : (b : ℕ) → field_of b ≡ 2047 → Unpacked ≡ pack_of b
+pub not_finite : (b : ℕ) → field_of b ≡ 2047 → None ≡ pack_of b
 unfolding pack_of pick
 not_finite b h = rw (eq-eqb (b / 2 ^ 52 % 2 ^ 11) 2047 (sym (field_is b) ∙ h))
 
@@ -51,34 +50,34 @@ module _ (b : ℕ) (h : field_of b ≡ 2047 → ⊥) where
   finite : eqb (b / 2 ^ 52 % 2 ^ 11) 2047 ≡ false
   finite = ne_eqb (b / 2 ^ 52 % 2 ^ 11) 2047 (λ e. h (field_is b ∙ e))
 
-  pub float_form : bit_and b 17179869183 ≡ 0 → Word (b / 4294967296) ≡ pack_of b
+  pub float_form : bit_and b 17179869183 ≡ 0 → Some (b / 4294967296) ≡ pack_of b
   unfolding pack_of pick
   float_form g = rw (finite, eq-eqb (b % 2 ^ 34) 0 (sym (and_mask b 34) ∙ g))
 
-  pub no_float_form : (bit_and b 17179869183 ≡ 0 → ⊥) → (r : Packed) → r ≡ whole_form b → r ≡ pack_of b
+  pub no_float_form : (bit_and b 17179869183 ≡ 0 → ⊥) → (r : Option ℕ) → r ≡ whole_form b → r ≡ pack_of b
   unfolding pack_of pick
   no_float_form g r e = rw (finite, ne_eqb (b % 2 ^ 34) 0 (λ i. g (and_mask b 34 ∙ i))) e
 
 module _ (b : ℕ) where
-  no_whole : (float_size b % 2 ^ 1074 ≡ 0 → ⊥) → Unpacked ≡ whole_form b
+  no_whole : (float_size b % 2 ^ 1074 ≡ 0 → ⊥) → None ≡ whole_form b
   unfolding whole_form pick
   no_whole n = rw (ne_eqb (float_size b % 2 ^ 1074) 0 n)
 
-  no_range : in_range (float_sign b) (float_size b / 2 ^ 1074) ≡ false → Unpacked ≡ whole_form b
+  no_range : in_range (float_sign b) (float_size b / 2 ^ 1074) ≡ false → None ≡ whole_form b
   unfolding whole_form pick
   no_range n = rw n (go (eqb (float_size b % 2 ^ 1074) 0))
     where
-      go : (t : Bool) → Unpacked ≡ pick (t && false) (Word (thirty_bits (float_sign b) (float_size b / 2 ^ 1074) * 4 + 2)) Unpacked
+      go : (t : Bool) → None ≡ pick (t && false) (Some (thirty_bits (float_sign b) (float_size b / 2 ^ 1074) * 4 + 2)) None
       go true = refl
       go false = refl
 
-  pub whole_word : (s : Bool) (m : ℕ) → float_sign b ≡ s → float_size b / 2 ^ 1074 ≡ m → float_size b % 2 ^ 1074 ≡ 0 → in_range s m ≡ true → Word (thirty_bits s m * 4 + 2) ≡ whole_form b
+  pub whole_word : (s : Bool) (m : ℕ) → float_sign b ≡ s → float_size b / 2 ^ 1074 ≡ m → float_size b % 2 ^ 1074 ≡ 0 → in_range s m ≡ true → Some (thirty_bits s m * 4 + 2) ≡ whole_form b
   unfolding whole_form pick
   whole_word s m p q z r = rw (p, q, eq-eqb (float_size b % 2 ^ 1074) 0 z, r)
 
--- ---- the whole_number form, as the code finds it
+-- ---- the whole-number form, as the code finds it
 
-pub too_small : (b : ℕ) → 0 < b % 17179869184 → field_of b < 1023 → Unpacked ≡ whole_form b
+pub too_small : (b : ℕ) → 0 < b % 17179869184 → field_of b < 1023 → None ≡ whole_form b
 too_small b g l =
     let t = b % 2 ^ 52 in
     let n : t ≡ 0 → ⊥ = λ e. omega arith in
@@ -89,7 +88,7 @@ unfolding pick
 out_of_range true m h = lt-leb m (2 ^ 29) h
 out_of_range false m h = le-ltb m (2 ^ 29) (omega arith)
 
-pub too_large : (b : ℕ) → 1052 < field_of b → Unpacked ≡ whole_form b
+pub too_large : (b : ℕ) → 1052 < field_of b → None ≡ whole_form b
 too_large b l = no_range b (out_of_range (float_sign b) (float_size b / 2 ^ 1074) (rw (size_units b) (lt_of_lt_of_le (lit< {m = 2 ^ 29} {n = 2 ^ 30} tt) (units_large (field_of b) (b % 2 ^ 52) l))))
 
 -- between, the size is the significand q times 2 ^ k, and 2 ^ 1074 is 2 ^ s times 2 ^ k
@@ -141,7 +140,7 @@ module _ (b : ℕ) (lo : 1023 ≤ field_of b) (hi : field_of b ≤ 1052) where
   div_is : float_size b / 2 ^ 1074 ≡ size_of b
   div_is = ap (λ (n : ℕ). n / 2 ^ 1074) size_is ∙ cut_div (significand_of b) (1075 - field_of b) (field_of b - 1) sum_is
 
-  pub fraction : (back_of b ≡ significand_of b → ⊥) → Unpacked ≡ whole_form b
+  pub fraction : (back_of b ≡ significand_of b → ⊥) → None ≡ whole_form b
   fraction n = no_whole b (λ z. n (back_is ∙ whole_cut (significand_of b) (1075 - field_of b) (field_of b - 1) sum_is (sym (ap (λ (n : ℕ). n % 2 ^ 1074) size_is) ∙ z)))
 
   -- it is 1 or more, so that what a negative one leaves of 2 ^ 30 has 30 bits
@@ -167,19 +166,19 @@ module _ (b : ℕ) (lo : 1023 ≤ field_of b) (hi : field_of b ≤ 1052) where
     whole : float_size b % 2 ^ 1074 ≡ 0
     whole = ap (λ (n : ℕ). n % 2 ^ 1074) size_is ∙ cut_whole (significand_of b) (1075 - field_of b) (field_of b - 1) sum_is (sym back_is ∙ back)
 
-    pub positive : b / 9223372036854775808 ≡ 0 → size_of b < 536870912 → Word (size_of b * 4 + 2) ≡ whole_form b
+    pub positive : b / 9223372036854775808 ≡ 0 → size_of b < 536870912 → Some (size_of b * 4 + 2) ≡ whole_form b
     unfolding pick
     positive s l = whole_word b false (size_of b) (plus s) div_is whole (lt-ltb (size_of b) (2 ^ 29) l)
 
-    pub negative : (b / 9223372036854775808 ≡ 0 → ⊥) → size_of b ≤ 536870912 → Word ((1073741824 - size_of b) * 4 + 2) ≡ whole_form b
+    pub negative : (b / 9223372036854775808 ≡ 0 → ⊥) → size_of b ≤ 536870912 → Some ((1073741824 - size_of b) * 4 + 2) ≡ whole_form b
     unfolding pick
     negative s l = whole_word b true (size_of b) (minus s) div_is whole (le-leb (size_of b) (2 ^ 29) l)
 
-  pub positive_out : b / 9223372036854775808 ≡ 0 → 536870912 ≤ size_of b → Unpacked ≡ whole_form b
+  pub positive_out : b / 9223372036854775808 ≡ 0 → 536870912 ≤ size_of b → None ≡ whole_form b
   unfolding pick
   positive_out s l = no_range b (rw (plus s, div_is) (le-ltb (size_of b) (2 ^ 29) l))
 
-  pub negative_out : (b / 9223372036854775808 ≡ 0 → ⊥) → 536870912 < size_of b → Unpacked ≡ whole_form b
+  pub negative_out : (b / 9223372036854775808 ≡ 0 → ⊥) → 536870912 < size_of b → None ≡ whole_form b
   unfolding pick
   negative_out s l = no_range b (rw (minus s, div_is) (lt-leb (size_of b) (2 ^ 29) l))
 

@@ -1,13 +1,17 @@
 -- The 64 bits of an f64: bit 63 is the sign, bits 52 to 62 are the exponent's field, bits 0 to 51 the digits below the leading one.
 -- `of_bits binary64 b` is the f64 that the pattern b stands for. All NaN patterns stand for the one NaN.
-use Rattle.std.specs.Prelude.{ℕ, zero, suc, ◌+◌, ◌*◌, ◌/◌, ◌%◌, ◌^◌, Bool, leb, ltb, Float}
+use Rattle.std.specs.Prelude.{ℕ, zero, suc, ◌+◌, ◌*◌, ◌/◌, ◌%◌, ◌^◌, Bool, Option, Some, None, leb, ltb, Float}
 use Rattle.std.specs.Float.{binary64}
-use Rattle.std.specs.Float.Ieee.{to_bits, is_nan}
+use Rattle.std.specs.Float.Ieee.{of_bits, to_bits, is_nan}
 use Rattle.steps.specs.Choice.{pick}
 
 -- the lower 63 bits are above those of an infinity
 unfoldable pub is_nan_bits : ℕ → Bool
 is_nan_bits b = ltb (2047 * 2 ^ 52) (b % 2 ^ 63)
+
+-- the f64 of 64 bits that are no NaN's
+unfoldable pub float_in : ℕ → Option Float
+float_in b = pick (is_nan_bits b) None (Some (of_bits binary64 b))
 
 -- the bits of x; of a NaN, whose own are not kept, one fixed pattern
 unfoldable pub bits_of : Float → ℕ

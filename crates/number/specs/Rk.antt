@@ -1,12 +1,10 @@
 -- An RK word and the number that it means. A number is a sign and a size, in units of 2 ^ -1074; a zero keeps its sign.
-use Rattle.std.specs.Prelude.{ℕ, ◌-◌, ◌*◌, ◌/◌, ◌%◌, ◌^◌, Bool, not, ◌&&◌, leb, eqb}
+use Rattle.std.specs.Prelude.{ℕ, ◌-◌, ◌*◌, ◌/◌, ◌%◌, ◌^◌, Bool, not, ◌&&◌, Option, Some, None, leb, eqb, Float}
 use Rattle.std.specs.Float.{binary64}
 use Rattle.std.specs.Float.Ieee.{of_bits}
 use Rattle.steps.specs.Choice.{pick}
 use Rattle.number.specs.Float64.{float_sign, float_size}
 use Rattle.number.specs.Rounding.{rounded, signed}
-use Rattle.number.specs.declared.Rk.{Rk}
-use Rattle.number.specs.declared.Rk.TheVariants.{Number, Nothing}
 
 -- bit 1 set: the upper 30 bits v are a signed whole number
 abbrev pub is_whole : ℕ → Bool
@@ -44,5 +42,5 @@ rk_bits w = quotient_bits w (pick (is_divided w) 100 1)
 unfoldable pub means_nothing : ℕ → Bool
 means_nothing w = not (is_whole w) && eqb (w / 2 ^ 20 % 2 ^ 11) 2047
 
-unfoldable pub rk_of : ℕ → Rk
-rk_of w = pick (means_nothing w) Nothing (Number (of_bits binary64 (rk_bits w)))
+unfoldable pub rk_of : ℕ → Option Float
+rk_of w = pick (means_nothing w) None (Some (of_bits binary64 (rk_bits w)))

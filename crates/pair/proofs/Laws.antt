@@ -1,83 +1,89 @@
 -- The laws that the functions' proofs cite. Assumes nothing.
-use Prim.Native.Nat.{ℕ, zero, suc, ◌+◌, ◌≤◌}
+use Prim.Native.Nat.{ℕ, zero, suc, ◌≤◌}
 use mathlib.Core.Path.{◌≡◌, refl, sym, ap, ◌∙◌, subst}
 use mathlib.Core.List.{List, [], ◌∷◌}
 use lib.ListN.{length}
-use Rattle.steps.proofs.Choice.{never}
+use Rattle.std.specs.Prelude.{Option, Some, None, option_map, ok_or, Result, Ok, Err}
 use Rattle.steps.specs.Items.{nth}
 use Rattle.sheet_agreement.specs.Agreement.{Sheet}
 use Rattle.globals.specs.declared.Globals.{Globals}
 use Rattle.globals.specs.Sheets.{sheets_of}
-use Rattle.workbook.specs.declared.Checked.{Checked}
-use Rattle.workbook.specs.declared.Checked.TheVariants.{Right, Wrong}
-use Rattle.workbook.specs.Check.{checked_of}
+use Rattle.workbook.specs.Check.{Checked, Right, checked_of}
 use Rattle.workbook.proofs.Laws.{short}
-use Rattle.reading.specs.declared.Place.{Place}
-use Rattle.reading.specs.Cells.{listed_from}
-use Rattle.reading.specs.Reading.{name_at, width_at, type_at, start_by, rows_of}
 use Rattle.listing.specs.declared.Sought.{Sought}
-use Rattle.listing.specs.declared.Sought.TheVariants as sought
-use Rattle.listing.specs.Parts.{found_sheet, SoughtWithin}
+use Rattle.listing.specs.Parts.{found_sheet}
 use Rattle.pair.specs.declared.Whose.{Whose}
 use Rattle.pair.specs.declared.Whose.TheVariants.{Session, Template}
 use Rattle.pair.specs.declared.Of.{Of}
 use Rattle.pair.specs.declared.Of.TheVariants as of
+use Rattle.pair.specs.declared.StreamRefusal.{StreamRefusal}
+use Rattle.pair.specs.declared.PairRefusal.{PairRefusal}
 use Rattle.pair.specs.declared.PairChecked.{PairChecked}
-use Rattle.pair.specs.declared.PairChecked.TheVariants as checked
 use Rattle.pair.specs.declared.PairSheet.{PairSheet}
-use Rattle.pair.specs.declared.PairSheet.TheVariants as sheet
-use Rattle.pair.specs.declared.PairCells.TheVariants as cells
+use Rattle.pair.specs.declared.PairCells.{PairCells}
 use Rattle.pair.specs.declared.Where.{Where}
-use Rattle.pair.specs.declared.Where.TheVariants as where'
-use Rattle.pair.specs.Pair.{on_session, on_template, pair_of, Passes, of_stream, on_pair, sheet_from, described, named, started, pair_sheet_of, pair_name_of, pair_cells_of}
-use Rattle.pair.specs.Parts.{stands_in, where_of, WhereWithin}
+use Rattle.pair.specs.Refused.{refuse_of}
+use Rattle.reading.specs.Cells.{listed_from}
+use Rattle.reading.specs.Reading.{name_at, width_at, type_at, start_by, rows_of}
+use Rattle.pair.specs.Pair.{on_session, on_template, passes, pair_of, Passes, on_pair, sheet_from, pair_sheet_of, pair_name_of, pair_cells_of}
+use Rattle.pair.specs.Parts.{checked_for, stream_of, standing, where_of, found_of}
 
 -- ---- the check
-module _ (t s : List ℕ) {r : Checked} (is : r ≡ checked_of t 0) where
-  pub template_wrong : (n o : ℕ) → r ≡ Wrong n o → checked.Refused Template n o ≡ pair_of t s
-  unfolding pair_of
-  template_wrong n o h = ap (on_template s) (sym h ∙ is)
+abbrev pub and_then : {A B E : Type 0} → (A → Result B E) → Result A E → Result B E
+and_then k (Ok x) = k x
+and_then k (Err e) = Err e
 
-  module _ (g : Globals) (h : r ≡ Right g) {q : Checked} (i : q ≡ checked_of s g.unique) where
-    by_session : (x : Checked) → q ≡ x → on_session g x ≡ pair_of t s
-    unfolding pair_of
-    by_session x j = ap (on_session g) (sym j ∙ i) ∙ ap (on_template s) (sym h ∙ is)
+session_by : (g : Globals) (x : Checked) → on_session g x ≡ and_then (passes g) (checked_for Session x)
+session_by g (Ok h) = refl
+session_by g (Err r) = refl
 
-    pub session_wrong : (n o : ℕ) → q ≡ Wrong n o → checked.Refused Session n o ≡ pair_of t s
-    session_wrong n o j = by_session _ j
+template_by : (s : List ℕ) (x : Checked) → on_template s x ≡ and_then (λ g. and_then (passes g) (checked_for Session (checked_of s g.unique))) (checked_for Template x)
+template_by s (Ok g) = session_by g (checked_of s g.unique)
+template_by s (Err r) = refl
 
-    pub both_right : (b : Globals) → q ≡ Right b → checked.Passed g b ≡ pair_of t s
-    both_right b j = by_session _ j
-
-pub ruleset check_laws = (template_wrong, session_wrong, both_right)
+pub pair_by : (t s : List ℕ) → pair_of t s ≡ and_then (λ g. and_then (passes g) (checked_for Session (checked_of s g.unique))) (checked_for Template (checked_of t 0))
+unfolding pair_of
+pair_by t s = template_by s (checked_of t 0)
 
 -- ---- both streams pass
 module _ (t s : List ℕ) (g h : Globals) where
-  session_passed : (b : Globals) → checked_of t 0 ≡ Right b → (x : Checked) → checked_of s b.unique ≡ x → on_session b x ≡ checked.Passed g h → Passes t s g h
-  session_passed b i (Right c) j e =
-      let k : b ≡ g = cc in
-      let l : c ≡ h = cc in
-      record { template = i ∙ ap Right k; session = subst (λ (y : Globals). checked_of s y.unique ≡ Right h) k (j ∙ ap Right l) }
-  session_passed b i (Wrong n o) j e = never cc
+  session_passed : (b : Globals) → checked_of t 0 ≡ Right b → (x : Checked) → checked_of s b.unique ≡ x → on_session b x ≡ passes g h → Passes t s g h
+  session_passed b i (Ok c) j e =
+      let same : record { template = b; session = c } ≡ record { template = g; session = h } = cc in
+      let k : b ≡ g = ap (λ (x : PairChecked). x.template) same in
+      let l : c ≡ h = ap (λ (x : PairChecked). x.session) same in
+      record { template = i ∙ ap Ok k; session = subst (λ (y : Globals). checked_of s y.unique ≡ Right h) k (j ∙ ap Ok l) }
+  session_passed b i (Err r) j e = absurd (cc)
 
-  template_passed : (x : Checked) → checked_of t 0 ≡ x → on_template s x ≡ checked.Passed g h → Passes t s g h
-  template_passed (Right b) i e = session_passed b i (checked_of s b.unique) refl e
-  template_passed (Wrong n o) i e = never cc
+  template_passed : (x : Checked) → checked_of t 0 ≡ x → on_template s x ≡ passes g h → Passes t s g h
+  template_passed (Ok b) i e = session_passed b i (checked_of s b.unique) refl e
+  template_passed (Err r) i e = absurd (cc)
 
-  pub passes_both : pair_of t s ≡ checked.Passed g h → Passes t s g h
+  pub passes_both : pair_of t s ≡ passes g h → Passes t s g h
   unfolding pair_of
   passes_both e = template_passed (checked_of t 0) refl e
 
-module _ (t s : List ℕ) (g h : Globals) (c : PairChecked) (is : c ≡ pair_of t s) (p : c ≡ checked.Passed g h) where
+module _ (t s : List ℕ) (c : PairChecked) (is : Ok c ≡ pair_of t s) where
+  pub both : Passes t s c.template c.session
+  both = passes_both t s c.template c.session (sym is)
+
   pub template_short : length t ≤ 16777216
-  template_short = short t 0 g refl (passes_both t s g h (sym is ∙ p)).template
+  template_short = short t 0 c.template refl both.template
 
   pub session_short : length s ≤ 16777216
-  session_short = short s g.unique h refl (passes_both t s g h (sym is ∙ p)).session
+  session_short = short s c.template.unique c.session refl both.session
 
-pub passes_is : (t s : List ℕ) (g h : Globals) → Passes t s g h → pair_of t s ≡ checked.Passed g h
+pub passes_is : (t s : List ℕ) (g h : Globals) → Passes t s g h → pair_of t s ≡ passes g h
 unfolding pair_of
 passes_is t s g h p = ap (on_template s) p.template ∙ ap (on_session g) p.session
+
+-- what is said where both pass may use that they do
+pub where_passed : {A : Type 0} (t s : List ℕ) (r : Of → ℕ → ℕ → A) (f f' : Globals → Globals → A) → ((g h : Globals) → Passes t s g h → f g h ≡ f' g h) → on_pair r f (pair_of t s) ≡ on_pair r f' (pair_of t s)
+where_passed {A = A} t s r f f' k = by (pair_of t s) refl
+  where
+    by : (x : Result PairChecked StreamRefusal) → x ≡ pair_of t s → on_pair r f x ≡ on_pair r f' x
+    by (Ok c) is = k c.template c.session (both t s c is)
+    by (Err e) is = refl
 
 -- ---- the sheet of a number
 pub through_nth : {A B C : Type 0} (g : B → C) (f : A → B) (d : B) (l : List A) (n : ℕ) → nth l n (λ (x : A). g (f x)) (g d) ≡ g (nth l n f d)
@@ -86,138 +92,58 @@ through_nth g f d [] n = refl
 through_nth g f d (x ∷ l) zero = refl
 through_nth g f d (x ∷ l) (suc n) = through_nth g f d l n
 
-module _ (t s : List ℕ) (n : ℕ) where
-  abbrev in_template : Sought → Where
-  in_template (sought.Sheet h p k) = where'.InTemplate h p k
-  in_template sought.Absent = where'.Absent
+through_sheet : {A B : Type 0} (g : A → B) (t s : List ℕ) (n : ℕ) (f : Whose → List ℕ → Sheet → A) (d : A) → sheet_from t s n (λ w y x. g (f w y x)) (g d) ≡ g (sheet_from t s n f d)
+unfolding sheet_from
+through_sheet g t s n f d =
+    ap (λ y. nth (sheets_of s) n (λ (x : Sheet). g (f Session s x)) y) (through_nth g (f Template t) d (sheets_of t) n)
+    ∙ through_nth g (f Session s) (nth (sheets_of t) n (f Template t) d) (sheets_of s) n
 
-  abbrev in_session : Where → Sought → Where
-  in_session w (sought.Sheet h p k) = where'.InSession h p k
-  in_session w sought.Absent = w
+abbrev or_in_template : Option Sought → Option Sought → Option Where
+or_in_template d (Some x) = Some (record { whose = Session; sheet = x })
+or_in_template d None = option_map (λ (x : Sought). record { whose = Template; sheet = x }) d
 
-  where_by : (q : Sought) → q ≡ nth (sheets_of s) n found_sheet sought.Absent → (x : Sought) → q ≡ x → in_session (nth (sheets_of t) n (stands_in Template t) where'.Absent) x ≡ where_of t s n
-  unfolding where_of sheet_from
-  where_by q i x j =
-      let w = nth (sheets_of t) n (stands_in Template t) where'.Absent in
-      ap (in_session w) (sym j ∙ i) ∙ sym (through_nth (in_session w) found_sheet sought.Absent (sheets_of s) n)
+pub where_by : (t s : List ℕ) (n : ℕ) → where_of t s n ≡ or_in_template (nth (sheets_of t) n found_sheet None) (nth (sheets_of s) n found_sheet None)
+unfolding where_of sheet_from
+where_by t s n =
+    ap (nth (sheets_of s) n (λ (x : Sheet). Some (standing Session x))) (through_nth (λ d. or_in_template d None) found_sheet None (sheets_of t) n)
+    ∙ through_nth (or_in_template (nth (sheets_of t) n found_sheet None)) found_sheet None (sheets_of s) n
 
-  module _ (q : Sought) (i : q ≡ nth (sheets_of s) n found_sheet sought.Absent) where
-    pub where_session : (h p k : ℕ) → q ≡ sought.Sheet h p k → where'.InSession h p k ≡ where_of t s n
-    where_session h p k j = where_by q i _ j
-
-    module _ (none : q ≡ sought.Absent) (r : Sought) (e : r ≡ nth (sheets_of t) n found_sheet sought.Absent) where
-      by_template : (x : Sought) → r ≡ x → in_template x ≡ where_of t s n
-      by_template x j = ap in_template (sym j ∙ e) ∙ sym (through_nth in_template found_sheet sought.Absent (sheets_of t) n) ∙ where_by q i _ none
-
-      pub where_template : (h p k : ℕ) → r ≡ sought.Sheet h p k → where'.InTemplate h p k ≡ where_of t s n
-      where_template h p k j = by_template _ j
-
-      pub where_absent : r ≡ sought.Absent → where'.Absent ≡ where_of t s n
-      where_absent j = by_template _ j
-
-pub ruleset where_laws = (where_session, where_template, where_absent)
-
-pub within_there : (len h p k : ℕ) (q : Sought) → SoughtWithin len q → q ≡ sought.Sheet h p k → h + 12 ≤ len
-within_there len h p k q w e = let x : SoughtWithin len (sought.Sheet h p k) = subst (SoughtWithin len) e w in x
-
--- a sheet that was found lies within its stream
-pub found_session : (lt ls h p k : ℕ) (q : Where) → WhereWithin lt ls q → q ≡ where'.InSession h p k → h + 12 ≤ ls
-found_session lt ls h p k q w e = let x : WhereWithin lt ls (where'.InSession h p k) = subst (WhereWithin lt ls) e w in x
-
-pub found_template : (lt ls h p k : ℕ) (q : Where) → WhereWithin lt ls q → q ≡ where'.InTemplate h p k → h + 12 ≤ lt
-found_template lt ls h p k q w e = let x : WhereWithin lt ls (where'.InTemplate h p k) = subst (WhereWithin lt ls) e w in x
+pub found_by : (t s : List ℕ) (n : ℕ) → found_of t s n ≡ on_pair refuse_of (λ _ _. ok_or (where_of t s n) (record { of = of.Question; number = 11; offset = 0 })) (pair_of t s)
+unfolding found_of where_of
+found_by t s n =
+    ap (λ y. on_pair refuse_of (λ _ _. y) (pair_of t s))
+    (through_sheet (λ o. ok_or o (record { of = of.Question; number = 11; offset = 0 })) t s n (λ w _ x. Some (standing w x)) None)
 
 -- ---- what is said of that sheet
-module _ {A : Type 0} (t s : List ℕ) (n : ℕ) (f : Whose → List ℕ → Sheet → A) (d : A) where
-  abbrev pub on_where : Where → A
-  on_where (where'.InSession h p k) = f Session s (record { header = h; position = p; kind = k })
-  on_where (where'.InTemplate h p k) = f Template t (record { header = h; position = p; kind = k })
-  on_where where'.Absent = d
+abbrev pub on_found : {A : Type 0} → A → (Where → A) → Result Where PairRefusal → A
+on_found d f (Ok w) = f w
+on_found d f (Err e) = d
 
-  where_is : on_where (where_of t s n) ≡ sheet_from t s n f d
-  unfolding where_of sheet_from
-  where_is =
-      sym (through_nth on_where (stands_in Session s) (nth (sheets_of t) n (stands_in Template t) where'.Absent) (sheets_of s) n)
-      ∙ ap (λ (x : A). nth (sheets_of s) n (f Session s) x) (sym (through_nth on_where (stands_in Template t) where'.Absent (sheets_of t) n))
+module _ {A : Type 0} (t s : List ℕ) (n : ℕ) (g : Result Where PairRefusal → A) where
+  seen_pair : (c : Result PairChecked StreamRefusal)
+      → on_pair (λ w m o. g (refuse_of w m o)) (λ _ _. sheet_from t s n (λ w _ x. g (Ok (standing w x))) (g (refuse_of of.Question 11 0))) c
+      ≡ g (on_pair refuse_of (λ _ _. sheet_from t s n (λ w _ x. Ok (standing w x)) (refuse_of of.Question 11 0)) c)
+  seen_pair (Ok c) = through_sheet g t s n (λ w _ x. Ok (standing w x)) (refuse_of of.Question 11 0)
+  seen_pair (Err e) = refl
 
-  pub seen_where : (r x : Where) → r ≡ where_of t s n → r ≡ x → on_where x ≡ sheet_from t s n f d
-  seen_where r x i j = ap on_where (sym j ∙ i) ∙ where_is
+  pub seen : on_pair (λ w m o. g (refuse_of w m o)) (λ _ _. sheet_from t s n (λ w _ x. g (Ok (standing w x))) (g (refuse_of of.Question 11 0))) (pair_of t s) ≡ g (found_of t s n)
+  unfolding found_of
+  seen = seen_pair (pair_of t s)
 
--- ---- a question on the sheet, after the check
-module _ {A : Type 0} (refuse : Of → ℕ → ℕ → A) (f : Whose → List ℕ → Sheet → A) (d : A) (t s : List ℕ) (n : ℕ) (c : PairChecked) (is : c ≡ pair_of t s) where
-  abbrev asked : A
-  asked = on_pair refuse (λ _ _. sheet_from t s n f d) (pair_of t s)
+abbrev described : List ℕ → List ℕ → Where → Result PairSheet PairRefusal
+described t s w = let x = stream_of w.whose t s in Ok (record { whose = w.whose; header = w.sheet.header; type_byte = type_at x w.sheet.header; width = width_at x w.sheet.header; rows = rows_of (listed_from x (start_by (length x) w.sheet.position w.sheet.kind)) })
 
-  pub refused : (w : Whose) (m o : ℕ) → c ≡ checked.Refused w m o → refuse (of_stream w) m o ≡ asked
-  refused w m o h = ap (on_pair refuse (λ _ _. sheet_from t s n f d)) (sym h ∙ is)
+pub sheet_by : (t s : List ℕ) (n : ℕ) → pair_sheet_of t s n ≡ and_then (described t s) (found_of t s n)
+unfolding pair_sheet_of sheet_from
+sheet_by t s n = seen t s n (and_then (described t s))
 
-  pub answered : (g b : Globals) → c ≡ checked.Passed g b → (r x : Where) → r ≡ where_of t s n → r ≡ x → on_where t s n f d x ≡ asked
-  answered g b h r x i j = seen_where t s n f d r x i j ∙ ap (on_pair refuse (λ _ _. sheet_from t s n f d)) (sym h ∙ is)
+pub name_by : (t s : List ℕ) (n : ℕ) → pair_name_of t s n ≡ on_found [] (λ (w : Where). name_at (stream_of w.whose t s) w.sheet.header) (found_of t s n)
+unfolding pair_name_of sheet_from
+name_by t s n = seen t s n (on_found [] (λ (w : Where). name_at (stream_of w.whose t s) w.sheet.header))
 
-module _ (t s : List ℕ) (n : ℕ) (c : PairChecked) (is : c ≡ pair_of t s) where
-  module _ (w : Whose) (m o : ℕ) (h : c ≡ checked.Refused w m o) where
-    pub name_refused : [] ≡ pair_name_of t s n
-    unfolding pair_name_of
-    name_refused = refused (λ _ _ _. []) named [] t s n c is w m o h
+abbrev started : List ℕ → List ℕ → Where → Result PairCells PairRefusal
+started t s w = Ok (record { whose = w.whose; place = start_by (length (stream_of w.whose t s)) w.sheet.position w.sheet.kind })
 
-    pub sheet_refused : (x : Of) → x ≡ of_stream w → sheet.Refused x m o ≡ pair_sheet_of t s n
-    unfolding pair_sheet_of
-    sheet_refused x e = ap (λ (y : Of). sheet.Refused y m o) e ∙ refused sheet.Refused described (sheet.Refused of.Question 11 0) t s n c is w m o h
-
-    pub cells_refused : (x : Of) → x ≡ of_stream w → cells.Refused x m o ≡ pair_cells_of t s n
-    unfolding pair_cells_of
-    cells_refused x e = ap (λ (y : Of). cells.Refused y m o) e ∙ refused cells.Refused started (cells.Refused of.Question 11 0) t s n c is w m o h
-
-  module _ (g b : Globals) (h : c ≡ checked.Passed g b) (r : Where) (i : r ≡ where_of t s n) where
-    name_by : (x : Where) → r ≡ x → on_where t s n named [] x ≡ pair_name_of t s n
-    unfolding pair_name_of
-    name_by x j = answered (λ _ _ _. []) named [] t s n c is g b h r x i j
-
-    sheet_by : (x : Where) → r ≡ x → on_where t s n described (sheet.Refused of.Question 11 0) x ≡ pair_sheet_of t s n
-    unfolding pair_sheet_of
-    sheet_by x j = answered sheet.Refused described (sheet.Refused of.Question 11 0) t s n c is g b h r x i j
-
-    cells_by_lem : (x : Where) → r ≡ x → on_where t s n started (cells.Refused of.Question 11 0) x ≡ pair_cells_of t s n
-    unfolding pair_cells_of
-    cells_by_lem x j = answered cells.Refused started (cells.Refused of.Question 11 0) t s n c is g b h r x i j
-
-    pub name_absent : r ≡ where'.Absent → [] ≡ pair_name_of t s n
-    name_absent j = name_by _ j
-
-    pub sheet_absent : r ≡ where'.Absent → sheet.Refused of.Question 11 0 ≡ pair_sheet_of t s n
-    sheet_absent j = sheet_by _ j
-
-    pub cells_absent : r ≡ where'.Absent → cells.Refused of.Question 11 0 ≡ pair_cells_of t s n
-    cells_absent j = cells_by_lem _ j
-
-    module _ (a p k : ℕ) where
-      module _ (j : r ≡ where'.InSession a p k) where
-        pub name_session : (l : List ℕ) → l ≡ name_at s a → l ≡ pair_name_of t s n
-        name_session l e = e ∙ name_by _ j
-
-        pub sheet_session : (y : PairSheet) → y ≡ sheet.Sheet Session a (type_at s a) (width_at s a) (rows_of (listed_from s (start_by (length s) p k))) → y ≡ pair_sheet_of t s n
-        sheet_session y e = e ∙ sheet_by _ j
-
-        pub cells_session : (v : Place) → v ≡ start_by (length s) p k → cells.From Session v ≡ pair_cells_of t s n
-        cells_session v e = ap (cells.From Session) e ∙ cells_by_lem _ j
-
-      module _ (j : r ≡ where'.InTemplate a p k) where
-        pub name_template : (l : List ℕ) → l ≡ name_at t a → l ≡ pair_name_of t s n
-        name_template l e = e ∙ name_by _ j
-
-        pub sheet_template : (y : PairSheet) → y ≡ sheet.Sheet Template a (type_at t a) (width_at t a) (rows_of (listed_from t (start_by (length t) p k))) → y ≡ pair_sheet_of t s n
-        sheet_template y e = e ∙ sheet_by _ j
-
-        pub cells_template : (v : Place) → v ≡ start_by (length t) p k → cells.From Template v ≡ pair_cells_of t s n
-        cells_template v e = ap (cells.From Template) e ∙ cells_by_lem _ j
-
-pub ruleset name_laws = (name_refused, name_absent, name_session, name_template)
-
-pub ruleset sheet_laws = (sheet_refused, sheet_absent, sheet_session, sheet_template)
-
-pub ruleset cells_laws = (cells_refused, cells_absent, cells_session, cells_template)
-
--- a description, part by part
-pub described_by : (w : Whose) (s : List ℕ) (a p k x y m : ℕ) (v : Place) → x ≡ type_at s a → y ≡ width_at s a → v ≡ start_by (length s) p k → m ≡ rows_of (listed_from s v)
-    → sheet.Sheet w a x y m ≡ sheet.Sheet w a (type_at s a) (width_at s a) (rows_of (listed_from s (start_by (length s) p k)))
-described_by w s a p k x y m v e f g h = let i = h ∙ ap (λ (z : Place). rows_of (listed_from s z)) g in λ j. sheet.Sheet w a (e j) (f j) (i j)
+pub cells_by : (t s : List ℕ) (n : ℕ) → pair_cells_of t s n ≡ and_then (started t s) (found_of t s n)
+unfolding pair_cells_of sheet_from
+cells_by t s n = seen t s n (and_then (started t s))

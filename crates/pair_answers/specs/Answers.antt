@@ -1,5 +1,5 @@
 -- The answers over a template and a session in plain numbers: the refusal's number, 0 where there is none, its offset, and what is answered; what isn't is 0.
-use Rattle.std.specs.Prelude.{ℕ, List, eqb, length}
+use Rattle.std.specs.Prelude.{ℕ, List, eqb, length, Result, Ok, Err}
 use Rattle.steps.specs.Choice.{pick}
 use Rattle.globals.specs.Sheets.{sheets_of}
 use Rattle.reading.specs.Reading.{name_at}
@@ -10,18 +10,13 @@ use Rattle.pair.specs.declared.Whose.{Whose}
 use Rattle.pair.specs.declared.Whose.TheVariants.{Session, Template}
 use Rattle.pair.specs.declared.Of.{Of}
 use Rattle.pair.specs.declared.Of.TheVariants as of
+use Rattle.pair.specs.declared.StreamRefusal.{StreamRefusal}
+use Rattle.pair.specs.declared.PairRefusal.{PairRefusal}
 use Rattle.pair.specs.declared.PairChecked.{PairChecked}
-use Rattle.pair.specs.declared.PairChecked.TheVariants as checked
 use Rattle.pair.specs.declared.PairSheet.{PairSheet}
-use Rattle.pair.specs.declared.PairSheet.TheVariants as sheet
 use Rattle.pair.specs.declared.PairCells.{PairCells}
-use Rattle.pair.specs.declared.PairCells.TheVariants as cells
-use Rattle.pair.specs.declared.PairCorrected.{PairCorrected}
-use Rattle.pair.specs.declared.PairCorrected.TheVariants as corrected
 use Rattle.pair_texts.specs.declared.PairFetched.{PairFetched}
-use Rattle.pair_texts.specs.declared.PairFetched.TheVariants as fetched
 use Rattle.pair_texts.specs.declared.PairFilled.{PairFilled}
-use Rattle.pair_texts.specs.declared.PairFilled.TheVariants as filled
 use Rattle.pair_texts.specs.Texts.{table_of}
 use Rattle.pair_answers.specs.declared.Stream.{Stream}
 use Rattle.pair_answers.specs.declared.Check.{Check}
@@ -69,12 +64,13 @@ both_seen w a b = record {
 }
 
 -- t is the template, s the session
-abbrev pub check_seen : List ℕ → List ℕ → PairChecked → Check
-check_seen t s (checked.Passed g h) = both_seen (whose_number (table_of Session h)) (stream_of t g.table g.unique) (stream_of s h.table h.unique)
-check_seen t s (checked.Refused w n o) = record {
-  whose = whose_number w;
-  number = n;
-  offset = o;
+abbrev pub check_seen : List ℕ → List ℕ → Result PairChecked StreamRefusal → Check
+check_seen t s (Ok x) =
+    both_seen (whose_number (table_of Session x.session)) (stream_of t x.template.table x.template.unique) (stream_of s x.session.table x.session.unique)
+check_seen t s (Err r) = record {
+  whose = whose_number r.whose;
+  number = r.number;
+  offset = r.offset;
   table = 0;
   sheet = 0;
   sheets = 0;
@@ -94,23 +90,32 @@ abbrev pub name_in : List ℕ → List ℕ → Whose → ℕ → List ℕ
 name_in t s Template h = name_at t h
 name_in t s Session h = name_at s h
 
-abbrev pub sheet_seen : List ℕ → List ℕ → PairSheet → Sheet
-sheet_seen t s (sheet.Sheet w h k d r) = record { whose = whose_number w; number = 0; offset = 0; header = h; size = length (name_in t s w h); width = d; kind = k; rows = r }
-sheet_seen t s (sheet.Refused w n o) = record { whose = of_number w; number = n; offset = o; header = 0; size = 0; width = 0; kind = 0; rows = 0 }
+abbrev pub sheet_seen : List ℕ → List ℕ → Result PairSheet PairRefusal → Sheet
+sheet_seen t s (Ok x) = record {
+  whose = whose_number x.whose;
+  number = 0;
+  offset = 0;
+  header = x.header;
+  size = length (name_in t s x.whose x.header);
+  width = x.width;
+  kind = x.type_byte;
+  rows = x.rows;
+}
+sheet_seen t s (Err r) = record { whose = of_number r.of; number = r.number; offset = r.offset; header = 0; size = 0; width = 0; kind = 0; rows = 0 }
 
-abbrev pub cells_seen : PairCells → Cells
-cells_seen (cells.From w v) = record { whose = whose_number w; number = 0; offset = 0; at = v.at; part = v.part; level = v.level }
-cells_seen (cells.Refused w n o) = record { whose = of_number w; number = n; offset = o; at = 0; part = 0; level = 0 }
+abbrev pub cells_seen : Result PairCells PairRefusal → Cells
+cells_seen (Ok x) = record { whose = whose_number x.whose; number = 0; offset = 0; at = x.place.at; part = x.place.part; level = x.place.level }
+cells_seen (Err r) = record { whose = of_number r.of; number = r.number; offset = r.offset; at = 0; part = 0; level = 0 }
 
-abbrev pub units_seen : PairFetched → Units
-units_seen (fetched.Units w n) = record { whose = whose_number w; number = 0; offset = 0; units = n }
-units_seen (fetched.Refused w n o) = record { whose = of_number w; number = n; offset = o; units = 0 }
+abbrev pub units_seen : Result PairFetched PairRefusal → Units
+units_seen (Ok x) = record { whose = whose_number x.whose; number = 0; offset = 0; units = x.units }
+units_seen (Err r) = record { whose = of_number r.of; number = r.number; offset = r.offset; units = 0 }
 
 -- a granted correction is the session's
-abbrev pub answer_seen : PairCorrected → Answer
-answer_seen corrected.Granted = record { whose = whose_number Session; number = 0; offset = 0 }
-answer_seen (corrected.Refused w n o) = record { whose = of_number w; number = n; offset = o }
+abbrev pub answer_seen : Result (Unit {0}) PairRefusal → Answer
+answer_seen (Ok x) = record { whose = whose_number Session; number = 0; offset = 0 }
+answer_seen (Err r) = record { whose = of_number r.of; number = r.number; offset = r.offset }
 
-abbrev pub filled_seen : PairFilled → Filled
-filled_seen (filled.Strings n m) = record { whose = 0; number = 0; offset = 0; strings = n; ownstrings = m }
-filled_seen (filled.Refused w n o) = record { whose = of_number w; number = n; offset = o; strings = 0; ownstrings = 0 }
+abbrev pub filled_seen : Result PairFilled PairRefusal → Filled
+filled_seen (Ok x) = record { whose = 0; number = 0; offset = 0; strings = x.template; ownstrings = x.session }
+filled_seen (Err r) = record { whose = of_number r.of; number = r.number; offset = r.offset; strings = 0; ownstrings = 0 }

@@ -1,16 +1,17 @@
 // The answers over a template and a session in plain numbers, as C has them: whose is 1 for the template, 2 for the session, 0 for neither.
 #![tactic(auto)]
 
-ghost use Rattle.std.specs.Prelude.{◌≡◌, length};
+ghost use Rattle.std.specs.Prelude.{◌≡◌};
 ghost use Rattle.new_value.specs.declared.NewValue.{NewValue};
 ghost use Rattle.pair.specs.Pair.{pair_of, pair_sheet_of, pair_cells_of, pair_correction_of, answer_of, session_after};
 ghost use Rattle.pair_texts.specs.Texts.{pair_fetch_of, pair_buffer_of, pair_text_of, pair_text_buffer};
 ghost use Rattle.pair_texts.specs.Tables.{pair_fill_of, template_table_after, session_table_after};
-ghost use Rattle.pair_answers.specs.Answers.{whose_number, of_number, stream_of, whose_asked, check_seen, name_in, sheet_seen, cells_seen, units_seen, answer_seen, filled_seen};
+ghost use Rattle.pair_answers.specs.Answers.{whose_number, of_number, stream_of, whose_asked, check_seen, sheet_seen, cells_seen, units_seen, answer_seen, filled_seen};
 
+use globals::Globals;
 use new_value::NewValue;
-use pair::{Of, PairCells, PairChecked, PairCorrected, PairSheet, Whose};
-use pair_texts::{PairFetched, PairFilled};
+use pair::{Of, PairRefusal, Whose};
+use pair_texts::PairFetched;
 
 // What the check tells of one stream: its sheets and strings, and where its first string is.
 #[derive(Clone, Copy)]
@@ -24,7 +25,7 @@ pub struct Stream {
 
 // Of both streams: first the template's sheets, strings and place, then the session's. `table` says in whose table the session's indices resolve.
 #[repr(C)]
-#[derive(Clone, Copy)]
+#[derive(Clone, Copy, Default)]
 pub struct Check {
     pub whose: u8,
     pub number: u8,
@@ -45,7 +46,7 @@ pub struct Check {
 
 // A sheet: its BOUNDSHEET, 12 bytes after whose header its name starts, the name's bytes, the bytes of a character, its type and its rows.
 #[repr(C)]
-#[derive(Clone, Copy)]
+#[derive(Clone, Copy, Default)]
 pub struct Sheet {
     pub whose: u8,
     pub number: u8,
@@ -59,7 +60,7 @@ pub struct Sheet {
 
 // Where a listing starts.
 #[repr(C)]
-#[derive(Clone, Copy)]
+#[derive(Clone, Copy, Default)]
 pub struct Cells {
     pub whose: u8,
     pub number: u8,
@@ -70,7 +71,7 @@ pub struct Cells {
 }
 
 #[repr(C)]
-#[derive(Clone, Copy)]
+#[derive(Clone, Copy, Default)]
 pub struct Units {
     pub whose: u8,
     pub number: u8,
@@ -79,7 +80,7 @@ pub struct Units {
 }
 
 #[repr(C)]
-#[derive(Clone, Copy)]
+#[derive(Clone, Copy, Default)]
 pub struct Answer {
     pub whose: u8,
     pub number: u8,
@@ -88,22 +89,13 @@ pub struct Answer {
 
 // Of how many strings of the template and of the session the tables have the places.
 #[repr(C)]
-#[derive(Clone, Copy)]
+#[derive(Clone, Copy, Default)]
 pub struct Filled {
     pub whose: u8,
     pub number: u8,
     pub offset: usize,
     pub strings: u32,
     pub ownstrings: u32,
-}
-
-fn whose_number(whose: Whose) -> u8
-    ensures { result ≡ whose_number whose }
-{
-    match whose {
-        Whose::Template => 1,
-        Whose::Session => 2,
-    }
 }
 
 pub fn of_number(of: Of) -> u8
@@ -116,23 +108,32 @@ pub fn of_number(of: Of) -> u8
     }
 }
 
+fn whose_number(whose: Whose) -> u8
+    ensures { result ≡ whose_number whose }
+{
+    of_number(Of::from(whose))
+}
+
 // Whose index is asked: the template's by 1, the session's by any other number.
+#[tactic(auto, unfolding(crate::specs::Answers::whose_asked, steps::specs::Choice::pick))]
 fn whose_asked(asked: u8) -> Whose
     ensures { result ≡ whose_asked asked }
 {
     if asked == 1 {
-        return Whose::Template;
+        Whose::Template
+    } else {
+        Whose::Session
     }
-    Whose::Session
 }
 
-fn stream_of(s: &[u8], table: usize, unique: u32) -> Stream
-    ensures { result ≡ stream_of s.now table unique }
+#[tactic(auto, unfolding(crate::specs::Answers::stream_of))]
+fn stream_of(s: &[u8], g: Globals) -> Stream
+    ensures { result ≡ stream_of s.now g.table g.unique }
 {
-    let first = fetch::first_string(s, table);
+    let first = fetch::first_string(s, g.table);
     Stream {
         sheets: workbook::sheet_count(s),
-        strings: string_places::count_of(table, unique),
+        strings: string_places::count_of(g.table, g.unique),
         segment: first.seg,
         at: first.at,
         end: first.end,
@@ -143,18 +144,11 @@ pub fn check_seen(template: &[u8], session: &[u8]) -> Check
     ensures { result ≡ check_seen template.now session.now (pair_of template.now session.now) }
 {
     match pair::pair_check(template, session) {
-        PairChecked::Passed {
-            template: g,
-            session: h,
-        } => {
-            let a = stream_of(template, g.table, g.unique);
-            let b = stream_of(session, h.table, h.unique);
-            let table = whose_number(pair_texts::whose_table(Whose::Session, h));
+        Ok(both) => {
+            let a = stream_of(template, both.template);
+            let b = stream_of(session, both.session);
             Check {
-                whose: 0,
-                number: 0,
-                offset: 0,
-                table,
+                table: whose_number(pair_texts::whose_table(Whose::Session, both.session)),
                 sheet: listing::first_sheet(),
                 sheets: a.sheets,
                 strings: a.strings,
@@ -166,71 +160,37 @@ pub fn check_seen(template: &[u8], session: &[u8]) -> Check
                 ownsegment: b.segment,
                 ownat: b.at,
                 ownend: b.end,
+                ..Check::default()
             }
         }
-        PairChecked::Refused {
-            whose,
-            number,
-            offset,
-        } => Check {
-            whose: whose_number(whose),
-            number,
-            offset,
-            table: 0,
-            sheet: 0,
-            sheets: 0,
-            strings: 0,
-            segment: 0,
-            at: 0,
-            end: 0,
-            ownsheets: 0,
-            ownstrings: 0,
-            ownsegment: 0,
-            ownat: 0,
-            ownend: 0,
+        Err(r) => Check {
+            whose: whose_number(r.whose),
+            number: r.number,
+            offset: r.offset,
+            ..Check::default()
         },
     }
 }
 
-// The bytes of a sheet's name.
-fn name_size(template: &[u8], session: &[u8], whose: Whose, header: usize) -> usize
-    ensures { result ≡ length (name_in template.now session.now whose header) }
-{
-    match whose {
-        Whose::Template => listing::name_at(template, header).len(),
-        Whose::Session => listing::name_at(session, header).len(),
-    }
-}
-
+#[tactic(auto, using(crate::proofs::Laws::name_by))]
 pub fn sheet_seen(template: &[u8], session: &[u8], n: u32) -> Sheet
     ensures { result ≡ sheet_seen template.now session.now (pair_sheet_of template.now session.now n) }
 {
     match pair::pair_sheet(template, session, n) {
-        PairSheet::Sheet {
-            whose,
-            header,
-            type_byte,
-            width,
-            rows,
-        } => Sheet {
-            whose: whose_number(whose),
-            number: 0,
-            offset: 0,
-            header,
-            size: name_size(template, session, whose, header),
-            width,
-            kind: type_byte,
-            rows,
+        Ok(x) => Sheet {
+            whose: whose_number(x.whose),
+            header: x.header,
+            size: listing::name_at(x.whose.stream(template, session), x.header).len(),
+            width: x.width,
+            kind: x.type_byte,
+            rows: x.rows,
+            ..Sheet::default()
         },
-        PairSheet::Refused { of, number, offset } => Sheet {
-            whose: of_number(of),
-            number,
-            offset,
-            header: 0,
-            size: 0,
-            width: 0,
-            kind: 0,
-            rows: 0,
+        Err(r) => Sheet {
+            whose: of_number(r.of),
+            number: r.number,
+            offset: r.offset,
+            ..Sheet::default()
         },
     }
 }
@@ -239,39 +199,35 @@ pub fn cells_seen(template: &[u8], session: &[u8], n: u32) -> Cells
     ensures { result ≡ cells_seen (pair_cells_of template.now session.now n) }
 {
     match pair::pair_cells(template, session, n) {
-        PairCells::From { whose, place } => Cells {
-            whose: whose_number(whose),
-            number: 0,
-            offset: 0,
-            at: place.at,
-            part: place.part,
-            level: place.level,
+        Ok(x) => Cells {
+            whose: whose_number(x.whose),
+            at: x.place.at,
+            part: x.place.part,
+            level: x.place.level,
+            ..Cells::default()
         },
-        PairCells::Refused { of, number, offset } => Cells {
-            whose: of_number(of),
-            number,
-            offset,
-            at: 0,
-            part: 0,
-            level: 0,
+        Err(r) => Cells {
+            whose: of_number(r.of),
+            number: r.number,
+            offset: r.offset,
+            ..Cells::default()
         },
     }
 }
 
-fn units_seen(answer: PairFetched) -> Units
+fn units_seen(answer: Result<PairFetched, PairRefusal>) -> Units
     ensures { result ≡ units_seen answer }
 {
     match answer {
-        PairFetched::Units { whose, units } => Units {
-            whose: whose_number(whose),
-            number: 0,
-            offset: 0,
-            units,
+        Ok(x) => Units {
+            whose: whose_number(x.whose),
+            units: x.units,
+            ..Units::default()
         },
-        PairFetched::Refused { of, number, offset } => Units {
-            whose: of_number(of),
-            number,
-            offset,
+        Err(r) => Units {
+            whose: of_number(r.of),
+            number: r.number,
+            offset: r.offset,
             units: 0,
         },
     }
@@ -299,6 +255,23 @@ pub fn text_seen(
     units_seen(pair_texts::pair_text(template, session, n, row, column, buf))
 }
 
+pub fn answer_seen(answer: Result<(), PairRefusal>) -> Answer
+    ensures { result ≡ answer_seen answer }
+{
+    match answer {
+        Ok(()) => Answer {
+            whose: whose_number(Whose::Session),
+            number: 0,
+            offset: 0,
+        },
+        Err(r) => Answer {
+            whose: of_number(r.of),
+            number: r.number,
+            offset: r.offset,
+        },
+    }
+}
+
 pub fn correct_seen(
     template: &[u8],
     session: &mut [u8],
@@ -310,18 +283,7 @@ pub fn correct_seen(
     ensures value { result ≡ answer_seen (answer_of (pair_correction_of template.now session.old n row column value)) }
     ensures session_after { session.new ≡ session_after session.old (pair_correction_of template.now session.old n row column value) }
 {
-    match pair::pair_correct(template, session, n, row, column, value) {
-        PairCorrected::Granted => Answer {
-            whose: 2,
-            number: 0,
-            offset: 0,
-        },
-        PairCorrected::Refused { of, number, offset } => Answer {
-            whose: of_number(of),
-            number,
-            offset,
-        },
-    }
+    answer_seen(pair::pair_correct(template, session, n, row, column, value))
 }
 
 pub fn fill_seen(template: &[u8], session: &[u8], first: &mut [u32], second: &mut [u32]) -> Filled
@@ -330,22 +292,16 @@ pub fn fill_seen(template: &[u8], session: &[u8], first: &mut [u32], second: &mu
     ensures second_after { second.new ≡ session_table_after template.now session.now first.old second.old }
 {
     match pair_texts::pair_fill(template, session, first, second) {
-        PairFilled::Strings {
-            template: strings,
-            session: ownstrings,
-        } => Filled {
-            whose: 0,
-            number: 0,
-            offset: 0,
-            strings,
-            ownstrings,
+        Ok(x) => Filled {
+            strings: x.template,
+            ownstrings: x.session,
+            ..Filled::default()
         },
-        PairFilled::Refused { of, number, offset } => Filled {
-            whose: of_number(of),
-            number,
-            offset,
-            strings: 0,
-            ownstrings: 0,
+        Err(r) => Filled {
+            whose: of_number(r.of),
+            number: r.number,
+            offset: r.offset,
+            ..Filled::default()
         },
     }
 }

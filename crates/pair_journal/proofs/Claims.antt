@@ -5,17 +5,15 @@ use mathlib.Core.List.{List}
 use mathlib.Core.Bool.{Bool, true, false}
 use native.Mathlib.Omega.{arith}
 use lib.ListN.{length}
-use Rattle.steps.proofs.Choice.{never}
+use Rattle.std.specs.Prelude.{Result, Ok, Err}
 use Rattle.globals.specs.declared.Globals.{Globals}
 use Rattle.globals.specs.Sheets.{sheets_of}
-use Rattle.workbook.specs.declared.Checked.{Checked}
-use Rattle.workbook.specs.declared.Checked.TheVariants.{Right, Wrong}
-use Rattle.workbook.specs.Check.{checked_of, on_checked}
+use Rattle.workbook.specs.Check.{Checked, Right, Wrong, checked_of, on_checked}
 use Rattle.correction.specs.Correction as correction
 use Rattle.correction.specs.Correction.{Correction}
 use Rattle.record_chain.proofs.Sheets.{passing}
 use Rattle.pair.specs.declared.PairChecked.{PairChecked}
-use Rattle.pair.specs.declared.PairChecked.TheVariants as checked
+use Rattle.pair.specs.declared.StreamRefusal.{StreamRefusal}
 use Rattle.pair.specs.Pair.{pair_of, on_template, on_session, Passes, on_pair, PairCorrection, refuses, asked, session_after}
 use Rattle.pair.proofs.Laws.{passes_both, passes_is}
 use Rattle.either_order.specs.Apart.{Asked}
@@ -30,7 +28,8 @@ use Rattle.journal_claims.proofs.Trip.{round_trip}
 use Rattle.pair_journal.specs.Journals.{declines, begins, start_asked, pair_start_of, pair_journalled_of, pair_journal_after, declined, ran, replay_asked, pair_replay_of}
 use Rattle.pair_journal.specs.Claims as claims
 use Rattle.pair_journal.specs.Claims.{StartIs, JournalledIs, ReplayIs, PairSince, PairRoundTrip}
-use Rattle.pair_journal.proofs.Laws.{correct_stream, correct_journal}
+use Rattle.pair.proofs.Correcting.{asked_stream}
+use Rattle.pair_journal.proofs.Laws.{journal_asked}
 
 module _ (t s : List ℕ) (g h : Globals) (p : Passes t s g h) where
   start_with : (n : ℕ) → pair_start_of t s n ≡ start_asked (start_of s g.unique n)
@@ -73,21 +72,21 @@ module _ (t : List ℕ) (g : Globals) (ok : checked_of t 0 ≡ Right g) (s j : L
   refused_pair : (m o : ℕ) → checked_of s g.unique ≡ Wrong m o → (w : PairCorrection → List ℕ) (d : List ℕ) → ((v : _) (m o : ℕ) → w (refuses v m o) ≡ d) → w (claims.journalled t s j x) ≡ d
   unfolding pair_journalled_of pair_of
   refused_pair m o e w d k =
-      ap (λ (c : PairChecked). w (on_pair refuses (λ _ h. asked (journalled_in s h.unique (length (sheets_of t)) j x.sheet x.row x.column x.value)) c)) (ap (on_template s) ok ∙ ap (on_session g) e)
+      ap (λ (c : Result PairChecked StreamRefusal). w (on_pair refuses (λ _ h. asked (journalled_in s h.unique (length (sheets_of t)) j x.sheet x.row x.column x.value)) c)) (ap (on_template s) ok ∙ ap (on_session g) e)
       ∙ k _ m o
 
   session_by : (c : Checked) → checked_of s g.unique ≡ c → session_after s (claims.journalled t s j x) ≡ correction.stream_after s there
-  session_by (Right h) e = ap (session_after s) (journalled_with t s g h (record { template = ok; session = e }) j x) ∙ sym (correct_stream s there)
-  session_by (Wrong m o) e = refused_pair m o e (session_after s) s (λ v m o. refl) ∙ sym (ap (correction.stream_after s) (refused_with m o e))
+  session_by (Ok h) e = ap (session_after s) (journalled_with t s g h (record { template = ok; session = e }) j x) ∙ sym (asked_stream s there)
+  session_by (Err r) e = refused_pair r.number r.offset e (session_after s) s (λ v m o. refl) ∙ sym (ap (correction.stream_after s) (refused_with r.number r.offset e))
 
   pub session_with : session_after s (claims.journalled t s j x) ≡ correction.stream_after s there
   session_with = session_by (checked_of s g.unique) refl
 
   journal_by : (c : Checked) → checked_of s g.unique ≡ c → claims.journal_next t s j x ≡ journal_after s j x.sheet x.row x.column x.value there
-  journal_by (Right h) e = ap (pair_journal_after s j x.sheet x.row x.column x.value) (journalled_with t s g h (record { template = ok; session = e }) j x) ∙ sym (correct_journal s j x.sheet x.row x.column x.value there)
-  journal_by (Wrong m o) e =
-      refused_pair m o e (pair_journal_after s j x.sheet x.row x.column x.value) j (λ v m o. refl)
-      ∙ sym (ap (journal_after s j x.sheet x.row x.column x.value) (refused_with m o e))
+  journal_by (Ok h) e = ap (pair_journal_after s j x.sheet x.row x.column x.value) (journalled_with t s g h (record { template = ok; session = e }) j x) ∙ journal_asked s j x.sheet x.row x.column x.value there
+  journal_by (Err r) e =
+      refused_pair r.number r.offset e (pair_journal_after s j x.sheet x.row x.column x.value) j (λ v m o. refl)
+      ∙ sym (ap (journal_after s j x.sheet x.row x.column x.value) (refused_with r.number r.offset e))
 
   pub journal_with : claims.journal_next t s j x ≡ journal_after s j x.sheet x.row x.column x.value there
   journal_with = journal_by (checked_of s g.unique) refl
@@ -100,14 +99,16 @@ record Begun (t s : List ℕ) (n unique : ℕ) : Type 0 where
   starts : start_of s globals.unique n ≡ journal.begins unique
 
 begins_as : (x : Start) (unique : ℕ) → start_asked x ≡ begins unique → x ≡ journal.begins unique
-begins_as (journal.declines m o) unique h = never (cc)
+begins_as (journal.declines m o) unique h = absurd (cc)
 begins_as (journal.begins u) unique h = let e : u ≡ unique = cc in ap journal.begins e
 
 module _ (t s : List ℕ) (n unique : ℕ) where
-  begun_by : (c : PairChecked) → pair_of t s ≡ c → on_pair declines (λ _ h. start_asked (start_in h.unique n)) c ≡ begins unique → Begun t s n unique
+  begun_by : (c : Result PairChecked StreamRefusal) → pair_of t s ≡ c → on_pair declines (λ _ h. start_asked (start_in h.unique n)) c ≡ begins unique → Begun t s n unique
   unfolding pair_start_of
-  begun_by (checked.Refused w m o) e k = never (cc)
-  begun_by (checked.Passed g h) e k =
+  begun_by (Err r) e k = absurd (cc)
+  begun_by (Ok c) e k =
+      let g = c.template in
+      let h = c.session in
       let p = passes_both t s g h e in
       record { globals = g; own = h; passes = p; starts = begins_as (start_of s g.unique n) unique (sym (start_with t s g h p n) ∙ ap (on_pair declines (λ _ h. start_asked (start_in h.unique n))) e ∙ k) }
 
@@ -152,5 +153,5 @@ pair_round_trip t s₀ j₀ s j template-bytes bytes since =
     (replay_with t s₀ g k.own k.passes j false ∙ ap replay_asked r.0, final g ok r.1 (checked_of s g.unique) refl)
   where
     final : (g : Globals) → checked_of t 0 ≡ Right g → replay_of s g.unique (length (sheets_of t)) j true ≡ replay.ran (all s₀) → (c : Checked) → checked_of s g.unique ≡ c → pair_replay_of t s j true ≡ ran (all s₀)
-    final g ok r (Right h) e = replay_with t s g h (record { template = ok; session = e }) j true ∙ ap replay_asked r
-    final g ok r (Wrong m o) e = let w = replay_wrong s g.unique (length (sheets_of t)) j true m o e in never (cc)
+    final g ok r (Ok h) e = replay_with t s g h (record { template = ok; session = e }) j true ∙ ap replay_asked r
+    final g ok r (Err x) e = let w = replay_wrong s g.unique (length (sheets_of t)) j true x.number x.offset e in absurd (cc)

@@ -1,22 +1,19 @@
 -- Journal and replay of a session over a template: the same definitions, with the unique count of the table that the session's text indices resolve in,
 -- and with how many sheets the template has. t is the template, s the session.
-use Rattle.std.specs.Prelude.{ℕ, Bool, List, length}
+use Rattle.std.specs.Prelude.{ℕ, Bool, List, length, Result, Ok}
 use Rattle.new_value.specs.declared.NewValue.{NewValue}
 use Rattle.globals.specs.Sheets.{sheets_of}
 use Rattle.correction.specs.Correction as correction
 use Rattle.pair.specs.declared.Of.{Of}
 use Rattle.pair.specs.declared.Of.TheVariants as of
-use Rattle.pair.specs.declared.PairCorrected.{PairCorrected}
-use Rattle.pair.specs.declared.PairCorrected.TheVariants as corrected
+use Rattle.pair.specs.declared.PairRefusal.{PairRefusal}
+use Rattle.pair.specs.Refused.{refuse_of}
 use Rattle.pair.specs.Pair.{pair_of, on_pair, PairCorrection, refuses, writes, asked}
 use Rattle.journal.specs.Journal as journal
 use Rattle.journal.specs.Journal.{Start, start_in, started_journal, journalled_in, journal_after}
 use Rattle.replay_entry.specs.declared.Replayed.{Replayed}
-use Rattle.replay_entry.specs.declared.Replayed.TheVariants as replayed
 use Rattle.replay_entry.specs.Replay as replay
-use Rattle.replay_entry.specs.Replay.{Ran, all, stopped, Replay, replay_in, stream_ran}
-use Rattle.pair_journal.specs.declared.PairReplayed.{PairReplayed}
-use Rattle.pair_journal.specs.declared.PairReplayed.TheVariants as answer
+use Rattle.replay_entry.specs.Replay.{Ran, Replay, replay_in, stream_ran, answer_ran}
 
 -- ---- starting
 pub data PairStart : Type 0 where
@@ -31,9 +28,9 @@ start_asked (journal.begins unique) = begins unique
 unfoldable pub pair_start_of : List ℕ → List ℕ → ℕ → PairStart
 pair_start_of t s n = on_pair declines (λ _ h. start_asked (start_in h.unique n)) (pair_of t s)
 
-abbrev pub start_answer : PairStart → PairCorrected
-start_answer (declines w n o) = corrected.Refused w n o
-start_answer (begins unique) = corrected.Granted
+abbrev pub start_answer : PairStart → Result (Unit {0}) PairRefusal
+start_answer (declines w n o) = refuse_of w n o
+start_answer (begins unique) = Ok tt
 
 abbrev pub journal_started : List ℕ → List ℕ → PairStart → List ℕ
 journal_started s j (declines w n o) = j
@@ -63,17 +60,7 @@ abbrev pub session_replayed : List ℕ → PairReplay → List ℕ
 session_replayed s (declined w n o) = s
 session_replayed s (ran r) = stream_ran r
 
-abbrev pub answer_ran : ℕ → Ran → PairReplayed
-answer_ran count (all s) = answer.All count
-answer_ran count (stopped n i s) = answer.Stopped n i
-
 -- count is how many entries the journal has
-abbrev pub pair_replay_answer : ℕ → PairReplay → PairReplayed
-pair_replay_answer count (declined w n o) = answer.Refused w n o
-pair_replay_answer count (ran r) = answer_ran count r
-
--- what the replay of a stream that passes answers, told over the pair
-abbrev pub replay_told : Replayed → PairReplayed
-replay_told (replayed.All n) = answer.All n
-replay_told (replayed.Refused n o) = answer.Refused of.Question n o
-replay_told (replayed.Stopped n i) = answer.Stopped n i
+abbrev pub pair_replay_answer : ℕ → PairReplay → Result Replayed PairRefusal
+pair_replay_answer count (declined w n o) = refuse_of w n o
+pair_replay_answer count (ran r) = Ok (answer_ran count r)

@@ -1,3 +1,2 @@
 pub mod Journals
-pub mod Parts
 pub mod Claims

@@ -9,7 +9,7 @@ use lib.Dec.{eqb}
 use borrow.Author.Tests.{ltb-false}
 use Rattle.steps.specs.Choice.{pick}
 use Rattle.steps.proofs.Choice.{never, pick_by, pick_same, pick_true}
-use Rattle.steps.specs.Walk.{run}
+use Rattle.steps.specs.Walk.{next, run}
 use Rattle.steps.proofs.Walk.{run_agree, run_more}
 use Rattle.byte_numbers.proofs.Laws.{Same, num_same}
 use Rattle.record.specs.declared.Header.{Header}
@@ -23,11 +23,12 @@ use Rattle.strings.specs.Table.{table_of, answer_of}
 use Rattle.strings.proofs.Local.{table_same}
 use Rattle.globals.specs.declared.Globals.{Globals}
 use Rattle.globals.specs.declared.Step.{Step}
-use Rattle.globals.specs.declared.Step.TheVariants.{More, Close, Stop}
-use Rattle.globals.specs.declared.Ended.{Ended}
-use Rattle.globals.specs.declared.Ended.TheVariants.{At, Refused}
+use Rattle.globals.specs.declared.Step.TheVariants.{More, Close}
+use Rattle.std.specs.Prelude.{Result, Ok, Err}
+use Rattle.refusal.specs.declared.Refusal.{Refusal}
+use Rattle.refusal.specs.Refused.{refuse}
 use Rattle.globals.specs.Globals.{past, past_table, boundsheet_fits, boundsheet_record, on_table, sst_record, record_in, on_header, step_of, turn, opened, records_from, is_globals_bof, on_first, globals_of}
-use Rattle.globals.proofs.Laws.{step_ahead, go, left, falls, again_more, ends_close, ends_stop, records_within}
+use Rattle.globals.proofs.Laws.{step_ahead, go, left, falls, records_step, records_within}
 use Rattle.record_chain.specs.Chain.{Reach}
 use Rattle.record_chain.proofs.Chain.{chain_past, over, over_ahead, over_one, reach_ahead}
 use Rattle.record_chain.proofs.Walks.{Going, going}
@@ -37,27 +38,30 @@ use Rattle.passes_after.proofs.Steps.{pick_same_by}
 -- ---- a walk of the globals that ends with g
 module _ (s : List ℕ) (g : Globals) where
   abbrev Ending : Globals → Type 0
-  Ending v = records_from s v ≡ At g
+  Ending v = records_from s v ≡ Ok g
 
   -- what a step of it leads to
-  abbrev To : Step → Type 0
-  To (More w) = Ending w
-  To (Close w) = w ≡ g
-  To (Stop n o) = ⊥
+  abbrev To : Result Step Refusal → Type 0
+  To (Ok (More w)) = Ending w
+  To (Ok (Close w)) = w ≡ g
+  To (Err r) = ⊥
 
-  to : (v : Globals) → Ending v → (x : Step) → x ≡ step_of s v → To x
-  to v p (More w) i = sym (again_more s v v (More w) i refl w refl) ∙ p
-  to v p (Close w) i = let h : At w ≡ At g = ends_close s v v (Close w) i refl w refl ∙ p in cc
-  to v p (Stop n o) i = let h : Refused n o ≡ At g = ends_stop s v v (Stop n o) i refl n o refl ∙ p in never (cc)
+  stepped : (v : Globals) (x : Result Step Refusal) → x ≡ step_of s v → records_from s v ≡ next (turn x) (λ w. records_from s w)
+  stepped v x i = records_step s v ∙ ap (λ (y : Result Step Refusal). next (turn y) (λ w. records_from s w)) (sym i)
+
+  to : (v : Globals) → Ending v → (x : Result Step Refusal) → x ≡ step_of s v → To x
+  to v p (Ok (More w)) i = sym (stepped v (Ok (More w)) i) ∙ p
+  to v p (Ok (Close w)) i = let h : ◌≡◌ {A = Result Globals Refusal} (Ok w) (Ok g) = sym (stepped v (Ok (Close w)) i) ∙ p in cc
+  to v p (Err r) i = let h : ◌≡◌ {A = Result Globals Refusal} (Err r) (Ok g) = sym (stepped v (Err r) i) ∙ p in never (cc)
 
   -- its record has a header before the end of the globals
   room : (v : Globals) → Ending v → v.at + 4 ≤ g.at
   room v p = by (step_of s v) refl
     where
-      by : (x : Step) → x ≡ step_of s v → v.at + 4 ≤ g.at
-      by (More w) i = let a = step_ahead s v (More w) i in let b = records_within s w g (to v p (More w) i) in omega arith
-      by (Close w) i = let a = step_ahead s v (Close w) i in let b : w.at ≡ g.at = ap (λ (x : Globals). x.at) (to v p (Close w) i) in omega arith
-      by (Stop n o) i = absurd (to v p (Stop n o) i)
+      by : (x : Result Step Refusal) → x ≡ step_of s v → v.at + 4 ≤ g.at
+      by (Ok (More w)) i = let a = step_ahead s v (Ok (More w)) i in let b = records_within s w g (to v p (Ok (More w)) i) in omega arith
+      by (Ok (Close w)) i = let a = step_ahead s v (Ok (Close w)) i in let b : w.at ≡ g.at = ap (λ (x : Globals). x.at) (to v p (Ok (Close w)) i) in omega arith
+      by (Err r) i = absurd (to v p (Err r) i)
 
   -- and ends by then
   body : (v : Globals) (t z e : ℕ) → Ending v → header_at s v.at ≡ Record t z e → e ≤ g.at
@@ -66,18 +70,18 @@ module _ (s : List ℕ) (g : Globals) where
       past : (w : ℕ) → Reach s v.at w → v.at < w → e ≤ w
       past w q l = reach_ahead s (chain_past (over_ahead s) (over_one s) q (over s h) l)
 
-      by : (x : Step) → x ≡ step_of s v → e ≤ g.at
-      by (More w) i =
-          let a = step_ahead s v (More w) i in
-          let b = records_within s w g (to v p (More w) i) in
+      by : (x : Result Step Refusal) → x ≡ step_of s v → e ≤ g.at
+      by (Ok (More w)) i =
+          let a = step_ahead s v (Ok (More w)) i in
+          let b = records_within s w g (to v p (Ok (More w)) i) in
           let c = past w.at (subst (Going s v) (sym i) (going s v)) (omega arith) in
           omega arith
-      by (Close w) i =
-          let a = step_ahead s v (Close w) i in
-          let b : w.at ≡ g.at = ap (λ (x : Globals). x.at) (to v p (Close w) i) in
+      by (Ok (Close w)) i =
+          let a = step_ahead s v (Ok (Close w)) i in
+          let b : w.at ≡ g.at = ap (λ (x : Globals). x.at) (to v p (Ok (Close w)) i) in
           let c = past w.at (subst (Going s v) (sym i) (going s v)) (omega arith) in
           omega arith
-      by (Stop n o) i = absurd (to v p (Stop n o) i)
+      by (Err r) i = absurd (to v p (Err r) i)
 
 -- ---- a stream of the same length that has the same bytes up to there
 module _ (s s' : List ℕ) (len : length s ≡ length s') (g : Globals) (same : Same s s' 0 g.at) where
@@ -87,7 +91,7 @@ module _ (s s' : List ℕ) (len : length s ≡ length s') (g : Globals) (same : 
     boundsheet_same =
         let w = whole s v.at t z e h in
         let m = body s g v t z e p h in
-        ap (λ (b : Bool). pick b (More (past v true e)) (Stop 6 v.at))
+        ap (λ (b : Bool). pick b (Ok (More (past v true e))) (refuse 6 v.at))
         (pick_same _ _ _ _ _ (λ _. refl)
         (λ i. let n = ltb-false z 8 i in rw (same (v.at + 9) (omega arith) (omega arith), same (v.at + 10) (omega arith) (omega arith), same (v.at + 11) (omega arith) (omega arith)) refl))
 
@@ -113,7 +117,7 @@ module _ (s s' : List ℕ) (len : length s ≡ length s') (g : Globals) (same : 
   step_by : (v : Globals) → Ending s g v → (h : Header) → header_at s v.at ≡ h → To s g (on_header s v h) → on_header s v h ≡ on_header s' v h
   step_by v p (Record t z e) h m = record_same v p t z e h m
   step_by v p Cut h m = refl
-  step_by v p End h m = ap (Stop 4) len
+  step_by v p End h m = ap (refuse 4) len
 
   step_same : (v : Globals) → Ending s g v → step_of s v ≡ step_of s' v
   unfolding step_of
@@ -122,33 +126,33 @@ module _ (s s' : List ℕ) (len : length s ≡ length s') (g : Globals) (same : 
       step_by v p (header_at s v.at) refl (to s g v p (step_of s v) refl)
       ∙ ap (on_header s' v) (header_same s s' len v.at (λ j a b. same j (omega arith) (omega arith)))
 
-  records_same : (v : Globals) → Ending s g v → records_from s' v ≡ At g
+  records_same : (v : Globals) → Ending s g v → records_from s' v ≡ Ok g
   unfolding records_from
   records_same v p =
-      sym (run_agree (go s) (go s') (Refused 4 (length s)) (Ending s g)
+      sym (run_agree (go s) (go s') (refuse 4 (length s)) (Ending s g)
       (λ v p. ap turn (step_same v p))
-      (λ v w p h. sym (run_more (go s) (Refused 4 (length s)) (left s) (falls s) h) ∙ p)
+      (λ v w p h. sym (run_more (go s) (refuse 4 (length s)) (left s) (falls s) h) ∙ p)
       (left s) (left s') v (ap (λ (n : ℕ). n - v.at) len) p
-      ∙ ap (λ (n : ℕ). run (go s') (Refused 4 n) (left s') v) len)
+      ∙ ap (λ (n : ℕ). run (go s') (refuse 4 n) (left s') v) len)
       ∙ p
 
   first_same : (t z : ℕ) → 8 ≤ g.at → is_globals_bof s t z ≡ is_globals_bof s' t z
   unfolding is_globals_bof
   first_same t z l = rw (num_same s s' 2 4 (λ j a b. same j (omega arith) (omega arith)), num_same s s' 2 6 (λ j a b. same j (omega arith) (omega arith))) refl
 
-  first_by : (u : ℕ) (h : Header) → header_at s 0 ≡ h → on_first s u h ≡ At g → globals_of s' u ≡ At g
+  first_by : (u : ℕ) (h : Header) → header_at s 0 ≡ h → on_first s u h ≡ Ok g → globals_of s' u ≡ Ok g
   unfolding globals_of opened
   first_by u (Record t z e) h i =
-      pick_by (λ (a : Ended). a ≡ At g → globals_of s' u ≡ At g) (is_globals_bof s t z)
+      pick_by (λ (a : Result Globals Refusal). a ≡ Ok g → globals_of s' u ≡ Ok g) (is_globals_bof s t z)
       (λ b j.
       let l = records_within s (opened u) g j in
       ap (on_first s' u) (sym (header_same s s' len 0 (λ k a c. same k (omega arith) (omega arith))) ∙ h)
-      ∙ sym (pick_true (At g) _ _ _ (sym (first_same t z (omega arith)) ∙ b) (sym (records_same (opened u) j))))
+      ∙ sym (pick_true (Ok g) _ _ _ (sym (first_same t z (omega arith)) ∙ b) (sym (records_same (opened u) j))))
       (λ _ j. never (cc)) i
   first_by u Cut h i = never (cc)
   first_by u End h i = never (cc)
 
-  globals_same : (u : ℕ) → globals_of s u ≡ At g → globals_of s' u ≡ At g
+  globals_same : (u : ℕ) → globals_of s u ≡ Ok g → globals_of s' u ≡ Ok g
   unfolding globals_of
   globals_same u h = first_by u (header_at s 0) refl h
 

@@ -17,11 +17,10 @@ use Rattle.value.specs.Value.{width_of}
 use Rattle.cell.specs.declared.Shape.{Shape}
 use Rattle.cell.specs.declared.Cell.{Cell}
 use Rattle.cell.specs.declared.Found.{Found}
-use Rattle.cell.specs.declared.Found.TheVariants.{There, Absent}
+use Rattle.std.specs.Prelude.{Option, None, Some, Result, Ok, Err}
+use Rattle.refusal.specs.declared.Refusal.{Refusal}
 use Rattle.cell.specs.Cells.{shape_of, field_of, part_of, count_of, found_of}
 use Rattle.new_value.specs.declared.NewValue.{NewValue}
-use Rattle.new_value.specs.declared.Plan.{Plan}
-use Rattle.new_value.specs.declared.Plan.TheVariants as plan
 use Rattle.new_value.specs.Change.{plan_of}
 use Rattle.record_after.specs.Claims.{place_of}
 use Rattle.record_after.proofs.Fields.{field_in}
@@ -30,9 +29,7 @@ use Rattle.record_after.proofs.Records.{cell_place}
 use Rattle.sheet_agreement.specs.Agreement.{Sheet}
 use Rattle.globals.specs.declared.Globals.{Globals}
 use Rattle.globals.specs.Sheets.{sheets_of}
-use Rattle.workbook.specs.declared.Checked.{Checked}
-use Rattle.workbook.specs.declared.Checked.TheVariants.{Right, Wrong}
-use Rattle.workbook.specs.Check.{checked_of, on_checked}
+use Rattle.workbook.specs.Check.{Checked, Right, checked_of, on_checked}
 use Rattle.reading.specs.declared.Place.{Place}
 use Rattle.reading.specs.Cells.{place_at, next_part, other_item, on_found, record_item, on_header, cell_item, remaining, listed_from}
 use Rattle.reading.specs.Reading.{listed_of}
@@ -48,11 +45,11 @@ refuses_not h = never (cc)
 -- ---- the correction, case by case
 module _ (s : List ℕ) (lent sheets n row column : ℕ) (v : NewValue) (f : Field) (p b : ℕ) where
   module _ (g : Globals) (passes : checked_of s lent ≡ Right g) (x : Sheet) (is : Nth (sheets_of s) n x) where
-    by_plan : (c : Cell) → cells_at row column (listed_of s x) ≡ c ∷ [] → (y : Plan) → plan_of c.kind v g.unique ≡ y → on_plan c y ≡ writes f p b → Granted s lent n row column v f p b
-    by_plan c i (plan.Put m) j h =
+    by_plan : (c : Cell) → cells_at row column (listed_of s x) ≡ c ∷ [] → (y : Result ℕ Refusal) → plan_of c.kind v g.unique ≡ y → on_plan c y ≡ writes f p b → Granted s lent n row column v f p b
+    by_plan c i (Ok m) j h =
         let q : m ≡ b = cc in
-        record { globals = g; passes = passes; sheet = x; nth = is; cell = c; only = i; plan = j ∙ ap plan.Put q; kind = cc; field = cc }
-    by_plan c i (plan.Refused m o) j h = refuses_not h
+        record { globals = g; passes = passes; sheet = x; nth = is; cell = c; only = i; plan = j ∙ ap Ok q; kind = cc; field = cc }
+    by_plan c i (Err r) j h = refuses_not h
 
     by_cells : (l : List Cell) → cells_at row column (listed_of s x) ≡ l → on_cells v g.unique l ≡ writes f p b → Granted s lent n row column v f p b
     by_cells [] i h = refuses_not h
@@ -61,10 +58,10 @@ module _ (s : List ℕ) (lent sheets n row column : ℕ) (v : NewValue) (f : Fie
 
   by_checked : (x : Checked) → checked_of s lent ≡ x
       → on_checked refuses (λ (g : Globals). nth (sheets_of s) n (λ (x : Sheet). on_cells v g.unique (cells_at row column (listed_of s x))) (refuses (no_sheet sheets n) 0)) x ≡ writes f p b → Granted s lent n row column v f p b
-  by_checked (Right g) i h =
+  by_checked (Ok g) i h =
       nth_either (λ (x : Sheet). on_cells v g.unique (cells_at row column (listed_of s x))) (refuses (no_sheet sheets n) 0) (writes f p b) (Granted s lent n row column v f p b) (sheets_of s) n
       (λ x j e. by_cells g i x j (cells_at row column (listed_of s x)) refl e) (λ _ e. refuses_not e) h
-  by_checked (Wrong m o) i h = refuses_not h
+  by_checked (Err r) i h = refuses_not h
 
   pub granted : correction_of s lent sheets n row column v ≡ writes f p b → Granted s lent n row column v f p b
   unfolding correction_of
@@ -86,13 +83,13 @@ module _ (s : List ℕ) (from : ℕ) where
     unfolding other_item place_at
     on_other = pick_any On _ (pick_any On _ past tt) (pick_any On _ (pick_any On _ tt past) past)
 
-    on_found_lem : (x : Found) → found_of s (shape_of t) v.at z v.part ≡ x → On (on_found v t e x)
+    on_found_lem : (x : Option Found) → found_of s (shape_of t) v.at z v.part ≡ x → On (on_found v t e x)
     unfolding place_at next_part
-    on_found_lem (There c left) i = (
-      record { at = v.at; type = t; size = z; end = e; part = v.part; left = left; reached = q; header = h; found = i },
+    on_found_lem (Some f) i = (
+      record { at = v.at; type = t; size = z; end = e; part = v.part; left = f.left; reached = q; header = h; found = i },
       pick_any From _ past q,
     )
-    on_found_lem Absent i = on_other
+    on_found_lem None i = on_other
 
     on_record : On (record_item s v t z e)
     unfolding record_item
@@ -122,7 +119,7 @@ module _ {s : List ℕ} {from : ℕ} {c : Cell} (l : Listed s from c) where
   h = shape_of l.type
 
   pub listed_here : Here s h l.at l.size l.part c l.left
-  listed_here = found_there s h l.at l.size l.part c l.left l.found
+  listed_here = found_there s h l.at l.size l.part (record { cell = c; left = l.left }) l.found
 
   pub listed_field : c.field ≡ place_of (field_of h) l.at l.part
   listed_field = ap (λ (x : Cell). x.field) listed_here.cell ∙ (cell_place s (field_of h) l.at l.part).0

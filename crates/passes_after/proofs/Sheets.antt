@@ -12,6 +12,7 @@ use Rattle.record.specs.declared.Header.TheVariants.{Record, Cut, End}
 use Rattle.record.specs.Record.{header_at}
 use Rattle.record.proofs.Laws.{whole, header_same}
 use Rattle.sheet_agreement.specs.Agreement.{Sheet}
+use Rattle.globals.specs.declared.Boundsheet.{Boundsheet}
 use Rattle.globals.specs.declared.Bound.{Bound}
 use Rattle.globals.specs.declared.Bound.TheVariants as bound
 use Rattle.globals.specs.Sheets.{type_kind, sheet_at, on_bound, bound_at, sheet_item, sheets_from}
@@ -25,12 +26,12 @@ module _ (s s' : List ℕ) (len : length s ≡ length s') (P : ℕ → Type 0) (
   sheet_same x t z e p h i l =
       let w = whole s x t z e h in
       let b = bounds x z e p (h ∙ ap (λ (n : ℕ). Record n z e) i) in
-      ap₂ (λ (m n : ℕ). bound.Sheet x m (type_kind n) e) (num_same s s' 4 (x + 4) (λ j a c. b j (omega arith) (omega arith))) (b (x + 9) (omega arith) (omega arith))
+      ap₂ {A = ℕ} {B = ℕ} {C = Boundsheet} (λ m n. record { header = x; position = m; kind = type_kind n; next = e }) (num_same s s' 4 (x + 4) (λ j a c. b j (omega arith) (omega arith))) (b (x + 9) (omega arith) (omega arith))
 
   bound_by : (x : ℕ) → P x → (h : Header) → header_at s x ≡ h → on_bound s x h ≡ on_bound s' x h
   bound_by x p (Record t z e) h =
       pick_same _ _ _ _ _
-      (λ i. pick_same _ _ _ _ _ (λ _. refl) (λ j. sheet_same x t z e p h (eqb-true t 0x0085 i) (ltb-false z 8 j)))
+      (λ i. pick_same _ _ _ _ _ (λ _. refl) (λ j. ap bound.Sheet (sheet_same x t z e p h (eqb-true t 0x0085 i) (ltb-false z 8 j))))
       (λ _. refl)
   bound_by x p Cut h = refl
   bound_by x p End h = refl

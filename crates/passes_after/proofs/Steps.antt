@@ -15,8 +15,9 @@ use Rattle.record.specs.declared.Header.{Header}
 use Rattle.record.specs.declared.Header.TheVariants.{Record, Cut, End}
 use Rattle.record.specs.Record.{header_at}
 use Rattle.record.proofs.Laws.{header_same}
-use Rattle.cell.specs.declared.Judged.{Judged}
-use Rattle.cell.specs.declared.Judged.TheVariants as judged
+use Rattle.std.specs.Prelude.{Option, None, Some, Result, Ok, Err}
+use Rattle.refusal.specs.declared.Refusal.{Refusal}
+use Rattle.refusal.specs.Refused.{refuse}
 use Rattle.cell.specs.Cells.{shape_of, judge_of}
 use Rattle.record_after.proofs.Locality.{judge_local}
 use Rattle.segments.specs.declared.Cursor.{Cursor}
@@ -24,7 +25,7 @@ use Rattle.segments.specs.Segments.{Got, got, refused}
 use Rattle.value.specs.Value.{result_of}
 use Rattle.text_result.specs.TextResult.{is_text, has_text, text_of}
 use Rattle.substream.specs.declared.Here.{Here}
-use Rattle.substream.specs.declared.Step.TheVariants.{More, Open, Stop}
+use Rattle.substream.specs.declared.Step.TheVariants.{More, Open}
 use Rattle.substream.specs.Substream.{past_parent, kind_at, inner_bof, other_record, dimensions_fit, dimensions_record, on_text, passed_record, on_judged, record_in, on_header, step_of}
 use Rattle.substream.proofs.Laws.{formula_body}
 use Rattle.passes_after.specs.Local.{Moves}
@@ -42,7 +43,7 @@ module _ (s s' : List ℕ) (k u : ℕ) (v : Here) (t z e : ℕ) where
   other_same h =
       pick_same _ _ _ _ _
       (λ _. pick_same _ _ _ _ _
-      (λ i. ap (λ (m : ℕ). pick (eqb k 0x0040) (Stop 4 v.at) (pick (eqb m 0x0020) (Open v.at) (Stop 4 v.at))) (h (eqb-true z 16 i)))
+      (λ i. ap (λ (m : ℕ). pick (eqb k 0x0040) (refuse 4 v.at) (pick (eqb m 0x0020) (Ok (Open v.at)) (refuse 4 v.at))) (h (eqb-true z 16 i)))
       (λ _. refl))
       (λ _. refl)
 
@@ -56,12 +57,12 @@ module _ (s s' : List ℕ) (k u : ℕ) (v : Here) (t z e : ℕ) where
     dimensions_local : dimensions_record s v.at z e ≡ dimensions_record s' v.at z e
     unfolding dimensions_record dimensions_fit
     dimensions_local =
-        ap (λ (b : Bool). pick b (More (record { at = e; orphan = false })) (Stop 6 v.at))
+        ap (λ (b : Bool). pick b (Ok (More (record { at = e; orphan = false }))) (refuse 6 v.at))
         (pick_same _ _ _ _ _
         (λ i. let n = eqb-true z 14 i in rw (fields_at 4 4 n (omega arith), fields_at 4 8 n (omega arith), fields_at 2 12 n (omega arith), fields_at 2 14 n (omega arith)) refl)
         (λ _. refl))
 
-    has_local : (n : ℕ) → judge_of s (shape_of t) v.at z u ≡ judged.Passed n → has_text s t v.at ≡ has_text s' t v.at
+    has_local : (n : ℕ) → judge_of s (shape_of t) v.at z u ≡ Ok (Some n) → has_text s t v.at ≡ has_text s' t v.at
     unfolding has_text
     has_local n i =
         pick_same _ _ _ _ _
@@ -78,12 +79,12 @@ module _ (s s' : List ℕ) (k u : ℕ) (v : Here) (t z e : ℕ) where
       unfolding passed_record
       passed_local w q m =
           pick_same_by Moves (has_text s t v.at) _ _ _ _ (λ i o. text_local w i (text_of s v.at e) refl o) (λ _ _. refl) m
-          ∙ ap (λ (b : Bool). pick b (on_text (text_of s' v.at e)) (More (past_parent e))) q
+          ∙ ap (λ (b : Bool). pick b (on_text (text_of s' v.at e)) (Ok (More (past_parent e)))) q
 
-      judged_local : k ≡ 0x0010 → (x : Judged) → judge_of s (shape_of t) v.at z u ≡ x → Moves (on_judged s k v t z e x) → on_judged s k v t z e x ≡ on_judged s' k v t z e x
-      judged_local w (judged.Passed n) i m = passed_local w (has_local n i) m
-      judged_local w (judged.Refused n o) i m = refl
-      judged_local w judged.Other i m = ap₂ (pick (eqb t 0x0200)) dimensions_local (ap (pick (eqb t 0x0207) (Stop 6 v.at)) other_local)
+      judged_local : k ≡ 0x0010 → (x : Result (Option ℕ) Refusal) → judge_of s (shape_of t) v.at z u ≡ x → Moves (on_judged s k v t z e x) → on_judged s k v t z e x ≡ on_judged s' k v t z e x
+      judged_local w (Ok (Some n)) i m = passed_local w (has_local n i) m
+      judged_local w (Err r) i m = refl
+      judged_local w (Ok None) i m = ap₂ (pick (eqb t 0x0200)) dimensions_local (ap (pick (eqb t 0x0207) (refuse 6 v.at)) other_local)
 
       pub record_local : Moves (record_in s k u v t z e) → record_in s k u v t z e ≡ record_in s' k u v t z e
       unfolding record_in
@@ -96,7 +97,7 @@ module _ (s s' : List ℕ) (len : length s ≡ length s') (k u : ℕ) (v : Here)
   step_by : (x : Header) → header_at s v.at ≡ x → ((t z e : ℕ) → x ≡ Record t z e → record_in s k u v t z e ≡ record_in s' k u v t z e) → on_header s k u v x ≡ on_header s' k u v x
   step_by (Record t z e) i f = f t z e refl
   step_by Cut i f = refl
-  step_by End i f = ap (Stop 4) len
+  step_by End i f = ap (refuse 4) len
 
   -- from what the step makes of a whole record to the step
   pub step_from : Same s s' v.at (v.at + 4) → ((t z e : ℕ) → header_at s v.at ≡ Record t z e → record_in s k u v t z e ≡ record_in s' k u v t z e) → step_of s k u v ≡ step_of s' k u v

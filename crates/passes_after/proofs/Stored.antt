@@ -19,8 +19,8 @@ use Rattle.value.specs.declared.Field.{Field}
 use Rattle.value.specs.Value.{width_of, value_fits, index_fits}
 use Rattle.cell.specs.declared.Shape.{Shape}
 use Rattle.cell.specs.declared.Shape.TheVariants.{BLANK, NUMBER, RK, LABELSST, BOOLERR, MULRK, MULBLANK, FORMULA, OTHER}
-use Rattle.cell.specs.declared.Judged.{Judged}
-use Rattle.cell.specs.declared.Judged.TheVariants as judged
+use Rattle.std.specs.Prelude.{Option, None, Some, Result, Ok, Err}
+use Rattle.refusal.specs.declared.Refusal.{Refusal}
 use Rattle.cell.specs.Cells.{shape_of, is_cell, field_of, part_of, count_of, field_at, judge_of, judged}
 use Rattle.record_after.specs.Claims.{place_of}
 use Rattle.record_after.proofs.Records as records
@@ -30,12 +30,11 @@ use Rattle.substream.specs.declared.Here.{Here}
 use Rattle.substream.specs.declared.Step.TheVariants.{More}
 use Rattle.substream.specs.Substream.{past_parent, passed_record, on_judged, record_in}
 use Rattle.cell.proofs.Sizes.{formula_shape}
-use Rattle.sheet_agreement.specs.Agreement.{agreement_of}
+use Rattle.sheet_agreement.specs.declared.SheetKind.TheVariants.{Worksheet}
+use Rattle.sheet_agreement.specs.Agreement.{same_kind, agreement_of}
 use Rattle.globals.specs.declared.Globals.{Globals}
-use Rattle.globals.specs.declared.Ended.TheVariants as globals
 use Rattle.globals.specs.Globals.{globals_of}
 use Rattle.globals.specs.Sheets.{sheets_of}
-use Rattle.top_level.specs.declared.Walked.TheVariants as walked
 use Rattle.top_level.specs.TopLevel.{tops_from, bofs_from}
 use Rattle.workbook.specs.Check.{checked_of}
 use Rattle.reading.specs.declared.Place.{Place}
@@ -68,10 +67,10 @@ has_cell MULBLANK s at z k l = refl
 has_cell FORMULA s at z k l = refl
 has_cell OTHER s at z k l = absurd (omega arith)
 
-abbrev pub NotOther : Judged → Type 0
-NotOther (judged.Passed n) = Unit {0}
-NotOther (judged.Refused n o) = Unit {0}
-NotOther judged.Other = ⊥
+abbrev pub NotOther : Result (Option ℕ) Refusal → Type 0
+NotOther (Ok (Some n)) = Unit {0}
+NotOther (Err r) = Unit {0}
+NotOther (Ok None) = ⊥
 
 pub cell_judged : (h : Shape) (s : List ℕ) (at z u : ℕ) → is_cell h ≡ true → NotOther (judge_of s h at z u)
 unfolding judge_of judged
@@ -92,9 +91,9 @@ unfolding shape_of pick
 boundsheet_other = refl
 
 -- past a record that is no FORMULA no text result is looked for
-plain_passed : (s : List ℕ) (at t e : ℕ) → (t ≡ 0x0006 → ⊥) → passed_record s at t e ≡ More (past_parent e)
+plain_passed : (s : List ℕ) (at t e : ℕ) → (t ≡ 0x0006 → ⊥) → passed_record s at t e ≡ Ok (More (past_parent e))
 unfolding passed_record has_text
-plain_passed s at t e h = sym (pick_false (More (past_parent e)) _ _ _ (sym (pick_ne false _ _ t 0x0006 h refl)) refl)
+plain_passed s at t e h = sym (pick_false (Ok (More (past_parent e))) _ _ _ (sym (pick_ne false _ _ t 0x0006 h refl)) refl)
 
 -- ---- the number that is stored
 module _ {s : List ℕ} {u n : ℕ} {f : Field} {p b : ℕ} (given : Placed s u n f p b) where
@@ -186,7 +185,7 @@ module _ {s : List ℕ} {u n : ℕ} {f : Field} {p b : ℕ} (given : Placed s u 
   reach_start : (w : Place) → start_by (length s) given.sheet.position given.sheet.kind ≡ w → Reach s w.at a → Reach s g.at a
   unfolding start_by place_at
   reach_start w i q =
-      pick_by (λ (x : Place). x ≡ w → Reach s g.at a) (eqb given.sheet.kind 1)
+      pick_by (λ (x : Place). x ≡ w → Reach s g.at a) (same_kind given.sheet.kind Worksheet)
       (λ _ j. chain_trans reach_sheet (subst (λ (x : Place). Reach s x.at a) (sym j) q))
       (λ _ j.
       let r : Reach s (length s) a = subst (λ (x : Place). Reach s x.at a) (sym j) q in
@@ -201,7 +200,7 @@ module _ {s : List ℕ} {u n : ℕ} {f : Field} {p b : ℕ} (given : Placed s u 
   reached_first = chain_trans (globals_reach s u g passed.globals) reached
 
   -- ---- what stays
-  pub stored_globals : globals_of s' u ≡ globals.At g
+  pub stored_globals : globals_of s' u ≡ Ok g
   stored_globals = let l = reach_ahead s reached in globals_local s s' u g len (λ j i m. before j i (omega arith)) passed.globals
 
   pub stored_sheets : sheets_of s ≡ sheets_of s'
@@ -237,7 +236,7 @@ module _ {s : List ℕ} {u n : ℕ} {f : Field} {p b : ℕ} (given : Stored s u 
   u₀ = here₀.globals.unique
 
   -- the record passes in a worksheet as it did, and is passed over elsewhere
-  judged_same : (m : ℕ) → judge_of s h₀ a₀ z₀ u₀ ≡ judged.Passed m → judge_of t' h₀ a₀ z₀ u₀ ≡ judged.Passed m
+  judged_same : (m : ℕ) → judge_of s h₀ a₀ z₀ u₀ ≡ Ok (Some m) → judge_of t' h₀ a₀ z₀ u₀ ≡ Ok (Some m)
   judged_same m i =
       let r = records.right s h₀ a₀ z₀ u₀ m i in
       let c = r.count in
@@ -256,14 +255,14 @@ module _ {s : List ℕ} {u n : ℕ} {f : Field} {p b : ℕ} (given : Stored s u 
   formula_not : t₀ ≡ 0x0006 → ⊥
   formula_not q = given.plain (kind_is here₀ ∙ ap field_of (ap shape_of q ∙ formula_shape))
 
-  kept_by : (j : ℕ) (w : Here) → w.at ≡ a₀ → (x : Judged) → judge_of s h₀ w.at z₀ u₀ ≡ x → Moves (on_judged s j w t₀ z₀ e₀ x)
+  kept_by : (j : ℕ) (w : Here) → w.at ≡ a₀ → (x : Result (Option ℕ) Refusal) → judge_of s h₀ w.at z₀ u₀ ≡ x → Moves (on_judged s j w t₀ z₀ e₀ x)
       → on_judged s j w t₀ z₀ e₀ x ≡ on_judged t' j w t₀ z₀ e₀ (judge_of t' h₀ w.at z₀ u₀)
-  kept_by j w q (judged.Passed m) i o =
+  kept_by j w q (Ok (Some m)) i o =
       plain_passed s w.at t₀ e₀ formula_not ∙ sym (plain_passed t' w.at t₀ e₀ formula_not)
       ∙ ap (on_judged t' j w t₀ z₀ e₀)
       (sym (ap (λ (x : ℕ). judge_of t' h₀ x z₀ u₀) q ∙ judged_same m (ap (λ (x : ℕ). judge_of s h₀ x z₀ u₀) (sym q) ∙ i)))
-  kept_by j w q (judged.Refused m r) i o = absurd o
-  kept_by j w q judged.Other i o = absurd (subst NotOther i (cell_judged h₀ s w.at z₀ u₀ (has_cell h₀ s a₀ z₀ k₀ (below here₀))))
+  kept_by j w q (Err r) i o = absurd o
+  kept_by j w q (Ok None) i o = absurd (subst NotOther i (cell_judged h₀ s w.at z₀ u₀ (has_cell h₀ s a₀ z₀ k₀ (below here₀))))
 
   kept : (j : ℕ) (w : Here) → w.at ≡ a₀ → Moves (record_in s j u₀ w t₀ z₀ e₀) → record_in s j u₀ w t₀ z₀ e₀ ≡ record_in t' j u₀ w t₀ z₀ e₀
   unfolding record_in
@@ -276,7 +275,7 @@ module _ {s : List ℕ} {u n : ℕ} {f : Field} {p b : ℕ} (given : Stored s u 
   agrees : Agreeing s t' u₀ (Beside s a₀ e₀)
   agrees = beside_agrees s t' (len here₀) a₀ t₀ z₀ e₀ (is here₀) (before here₀) (after here₀) u₀ cells kept (not_type t₀ s a₀ z₀ k₀ (below here₀) 0 zero_other)
 
-  tops_stay : (tops_from t' u₀ here₀.globals.at ≡ walked.Passed) × (bofs_from s u₀ here₀.globals.at ≡ bofs_from t' u₀ here₀.globals.at)
+  tops_stay : (tops_from t' u₀ here₀.globals.at ≡ Ok tt) × (bofs_from s u₀ here₀.globals.at ≡ bofs_from t' u₀ here₀.globals.at)
   tops_stay = tops_local s t' u₀ (Beside s a₀ e₀) agrees here₀.globals.at (inl (reached here₀)) (passed here₀).tops
 
   pub stored_checked : checked_of t' u ≡ checked_of s u

@@ -11,10 +11,9 @@ use Rattle.value.specs.declared.Field.TheVariants.{StoredResult}
 use Rattle.cell.specs.declared.Cell.{Cell}
 use Rattle.new_value.specs.declared.NewValue.{NewValue}
 use Rattle.new_value.specs.declared.NewValue.TheVariants.{Number, Text, Truth, Error}
-use Rattle.new_value.specs.declared.Plan.TheVariants.{Put}
+use Rattle.std.specs.Prelude.{Ok}
 use Rattle.new_value.specs.Change.{Held, plan_of}
 use Rattle.record_after.proofs.Planned.{planned}
-use Rattle.globals.specs.declared.Ended.TheVariants as globals
 use Rattle.globals.specs.Globals.{globals_of}
 use Rattle.globals.specs.Sheets.{sheets_of}
 use Rattle.workbook.specs.Check.{checked_of}
@@ -42,17 +41,17 @@ at_place row column (d ∷ l) c m h = go (eqb d.row row && eqb d.column column) 
     go false i rest = let q = rest i in record { which = suc q.which; is = next q.is }
 
 -- a formula takes no value
-pub formula_takes : (v : NewValue) (u b : ℕ) → plan_of StoredResult v u ≡ Put b → ⊥
+pub formula_takes : (v : NewValue) (u b : ℕ) → plan_of StoredResult v u ≡ Ok b → ⊥
 formula_takes (Number x) u b h = never (cc)
 formula_takes (Text i) u b h = never (cc)
 formula_takes (Truth t) u b h = never (cc)
 formula_takes (Error e) u b h = never (cc)
 
-pub plan_plain : (f : Field) (v : NewValue) (u b : ℕ) → plan_of f v u ≡ Put b → f ≡ StoredResult → ⊥
+pub plan_plain : (f : Field) (v : NewValue) (u b : ℕ) → plan_of f v u ≡ Ok b → f ≡ StoredResult → ⊥
 plan_plain f v u b h e = formula_takes v u b (ap (λ (x : Field). plan_of x v u) (sym e) ∙ h)
 
 -- a plan's number is right in its field
-pub plan_fits : (f : Field) (v : NewValue) (unique b : ℕ) → Held v → plan_of f v unique ≡ Put b → Fits f unique b
+pub plan_fits : (f : Field) (v : NewValue) (unique b : ℕ) → Held v → plan_of f v unique ≡ Ok b → Fits f unique b
 plan_fits f v unique b held h = let y = planned f v unique b held h in record { small = y.small; right = y.right; index = y.index }
 
 -- ---- a granted correction stores a number
@@ -60,7 +59,7 @@ module _ (s : List ℕ) (lent n row column : ℕ) (v : NewValue) (f : Field) (p 
   pub stored : Stored s lent n f p b
   stored =
       let q = at_place row column (listed_of s given.sheet) given.cell [] given.only in
-      let h : plan_of f v given.globals.unique ≡ Put b = subst (λ (x : Field). plan_of x v given.globals.unique ≡ Put b) given.kind given.plan in
+      let h : plan_of f v given.globals.unique ≡ Ok b = subst (λ (x : Field). plan_of x v given.globals.unique ≡ Ok b) given.kind given.plan in
       let y : Fits f given.globals.unique b = plan_fits f v given.globals.unique b held h in
       record {
         placed = record { globals = given.globals; passes = given.passes; sheet = given.sheet; nth = given.nth; cell = given.cell; which = q.which; is = q.is; kind = given.kind; field = given.field; small = y.small };
@@ -68,7 +67,7 @@ module _ (s : List ℕ) (lent n row column : ℕ) (v : NewValue) (f : Field) (p 
         plain = plan_plain f v given.globals.unique b h;
       }
 
-  pub globals_stay : globals_of (stream_after s (writes f p b)) lent ≡ globals.At given.globals
+  pub globals_stay : globals_of (stream_after s (writes f p b)) lent ≡ Ok given.globals
   unfolding stored
   globals_stay = stored_globals stored.placed
 

@@ -1,19 +1,16 @@
 -- What a granted correction has.
-use Rattle.std.specs.Prelude.{ℕ, ◌≡◌, List, [], ◌∷◌}
+use Rattle.std.specs.Prelude.{ℕ, ◌≡◌, List, [], ◌∷◌, Some, Ok}
 use Rattle.record.specs.declared.Header.TheVariants.{Record}
 use Rattle.record.specs.Record.{header_at}
 use Rattle.value.specs.declared.Field.{Field}
 use Rattle.cell.specs.declared.Cell.{Cell}
-use Rattle.cell.specs.declared.Found.TheVariants.{There}
 use Rattle.cell.specs.Cells.{shape_of, found_of}
 use Rattle.new_value.specs.declared.NewValue.{NewValue}
-use Rattle.new_value.specs.declared.Plan.TheVariants.{Put}
 use Rattle.new_value.specs.Change.{plan_of}
 use Rattle.sheet_agreement.specs.Agreement.{Sheet}
 use Rattle.globals.specs.declared.Globals.{Globals}
 use Rattle.globals.specs.Sheets.{sheets_of}
-use Rattle.workbook.specs.declared.Checked.TheVariants.{Right}
-use Rattle.workbook.specs.Check.{checked_of}
+use Rattle.workbook.specs.Check.{Right, checked_of}
 use Rattle.reading.specs.Reading.{listed_of}
 use Rattle.correction.specs.Correction.{cells_at}
 use Rattle.record_chain.specs.Chain.{Reach, Nth}
@@ -26,7 +23,7 @@ pub record Granted (s : List ℕ) (lent n row column : ℕ) (v : NewValue) (f : 
   pub nth : Nth (sheets_of s) n sheet
   pub cell : Cell
   pub only : cells_at row column (listed_of s sheet) ≡ cell ∷ []
-  pub plan : plan_of cell.kind v globals.unique ≡ Put b
+  pub plan : plan_of cell.kind v globals.unique ≡ Ok b
   pub kind : cell.kind ≡ f
   pub field : cell.field ≡ p
 
@@ -40,4 +37,4 @@ pub record Listed (s : List ℕ) (from : ℕ) (c : Cell) : Type 0 where
   pub left : ℕ
   pub reached : Reach s from at
   pub header : header_at s at ≡ Record type size end
-  pub found : found_of s (shape_of type) at size part ≡ There c left
+  pub found : found_of s (shape_of type) at size part ≡ Some (record { cell = c; left = left })

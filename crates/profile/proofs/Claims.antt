@@ -3,6 +3,9 @@ use Prim.Native.Nat.{ℕ, zero, suc, ◌+◌, ◌*◌, ◌/◌, ◌%◌, ◌≤�
 use native.Mathlib.Nat.{add-zero, zero-add, div-add-mod'}
 use mathlib.Core.Path.{◌≡◌, refl, sym, ap, ap₂, ◌∙◌, subst}
 use mathlib.Core.List.{List, [], ◌∷◌, map}
+use Rattle.std.specs.Prelude.{Option, Some, None, Result, Ok, Err}
+use Rattle.refusal.specs.declared.Refusal.{Refusal}
+use Rattle.refusal.specs.Refused.{refuse}
 use mathlib.Core.Logic.{◌⊎◌, inl, inr}
 use native.Mathlib.Omega.{arith}
 use lib.ListN.{length}
@@ -11,26 +14,21 @@ use borrow.Author.Tests.{eqb-true, eqb-false, ltb-false}
 use Rattle.steps.specs.Choice.{pick}
 use Rattle.steps.proofs.Choice.{never, pick_any, pick_by, pick_eq, pick_ne}
 use Rattle.steps.specs.Items.{nth}
-use Rattle.number.specs.declared.Amount.{Amount}
-use Rattle.number.specs.declared.Amount.TheVariants.{Is, Unfit}
 use Rattle.value.specs.declared.Field.TheVariants.{NoField, Float, RkWord, TextIndex, TruthError, StoredResult}
 use Rattle.value.specs.declared.CellValue.{CellValue}
 use Rattle.value.specs.Value.{truth_error}
 use Rattle.cell.specs.declared.Cell.{Cell}
+use Rattle.sheet_agreement.specs.declared.SheetKind.{SheetKind}
+use Rattle.sheet_agreement.specs.declared.SheetKind.TheVariants.{Worksheet, Chart, Macro, Other}
 use Rattle.sheet_agreement.specs.Agreement.{Sheet}
 use Rattle.globals.specs.Sheets.{sheets_of}
-use Rattle.workbook.specs.declared.Checked.{Checked}
-use Rattle.workbook.specs.declared.Checked.TheVariants.{Right, Wrong}
-use Rattle.workbook.specs.Check.{checked_of, on_checked}
+use Rattle.workbook.specs.Check.{Checked, checked_of, on_checked}
 use Rattle.reading.specs.declared.Place.{Place}
 use Rattle.reading.specs.Cells.{listed_from}
 use Rattle.reading.specs.Reading.{start_of}
-use Rattle.profile.specs.declared.Judged.{Judged}
-use Rattle.profile.specs.declared.Judged.TheVariants.{Rows, Broken}
 use Rattle.profile.specs.declared.Session.{Session}
-use Rattle.profile.specs.declared.Session.TheVariants.{Inside, Refused}
 use Rattle.profile.specs.Placed.{Placed, placed_from}
-use Rattle.profile.specs.Profile.{amount_in, third_of, columns_of, risen, amount_at, seconds_after, on_amount, ended_at, judged_from, on_judged, profile_at, on_sheets, profile_of}
+use Rattle.profile.specs.Profile.{amount_in, third_of, columns_of, risen, amount_at, seconds_after, on_amount, ended_at, judged_from, on_judged, profile_at, of_worksheet, on_sheets, profile_of}
 use Rattle.profile.specs.Parts.{TwoOrThree}
 use Rattle.profile.specs.Claims.{PlacedListed, NumbersOnly, seconds_at, SessionFilled, EmptyInside}
 use Rattle.profile.proofs.Placed.{placed_cells}
@@ -44,7 +42,7 @@ numbers_only column n m NoField e = never (cc)
 numbers_only column n m Float e = inl refl
 numbers_only column n m RkWord e = inr refl
 numbers_only column n m TextIndex e = never (cc)
-numbers_only column n m TruthError e = pick_any (λ (v : CellValue). amount_in column v ≡ Is m → (TruthError ≡ Float) ⊎ (TruthError ≡ RkWord)) (eqb (n / 256) 0) (λ f. never (cc)) (λ f. never (cc)) e
+numbers_only column n m TruthError e = pick_any (λ (v : CellValue). amount_in column v ≡ Some m → (TruthError ≡ Float) ⊎ (TruthError ≡ RkWord)) (eqb (n / 256) 0) (λ f. never (cc)) (λ f. never (cc)) e
 numbers_only column n m StoredResult e = never (cc)
 
 -- ---- a cell of a session
@@ -53,37 +51,37 @@ module _ (k i seconds n : ℕ) (x : Placed) (l : List Placed) where
     pub row : x.cell.row ≡ i / k
     pub column : x.cell.column ≡ i % k
     pub number : ℕ
-    pub is : amount_in (i % k) x.cell.value ≡ Is number
+    pub is : amount_in (i % k) x.cell.value ≡ Some number
     pub risen_by : i % k ≡ 2 → seconds ≤ number
     pub after : ℕ
     pub after_is : after ≡ seconds_after (i % k) seconds number
-    pub rest : judged_from k (i + 1) after l ≡ Rows n
+    pub rest : judged_from k (i + 1) after l ≡ Ok n
 
-  abbrev Same : Amount → ℕ → Amount → Type 0
-  Same a m y = y ≡ Is m → a ≡ Is m
+  abbrev Same : Option ℕ → ℕ → Option ℕ → Type 0
+  Same a m y = y ≡ Some m → a ≡ Some m
 
-  right_risen : (m : ℕ) (a : Amount) → Same a m (risen (i % k) seconds a)
-  right_risen m (Is j) = pick_any (Same (Is j) m) _ (pick_any (Same (Is j) m) _ (λ e. never (cc)) (λ e. e)) (λ e. e)
-  right_risen m Unfit = λ e. e
+  right_risen : (m : ℕ) (a : Option ℕ) → Same a m (risen (i % k) seconds a)
+  right_risen m (Some j) = pick_any (Same (Some j) m) _ (pick_any (Same (Some j) m) _ (λ e. never (cc)) (λ e. e)) (λ e. e)
+  right_risen m None = λ e. e
 
-  abbrev Above : ℕ → Amount → Type 0
-  Above m y = y ≡ Is m → i % k ≡ 2 → seconds ≤ m
+  abbrev Above : ℕ → Option ℕ → Type 0
+  Above m y = y ≡ Some m → i % k ≡ 2 → seconds ≤ m
 
-  right_above : (m : ℕ) (a : Amount) → Above m (risen (i % k) seconds a)
-  right_above m (Is j) =
+  right_above : (m : ℕ) (a : Option ℕ) → Above m (risen (i % k) seconds a)
+  right_above m (Some j) =
       pick_by (Above m) (eqb (i % k) 2)
       (λ _. pick_by (Above m) (ltb j seconds) (λ _ e. never (cc)) (λ h e q. let f : j ≡ m = cc in let l = ltb-false j seconds h in omega arith))
       (λ h e q. absurd (eqb-false (i % k) 2 h q))
-  right_above m Unfit = λ e. never (cc)
+  right_above m None = λ e. never (cc)
 
   pub record Placed-right (m : ℕ) : Type 0 where
     pub row_is : x.cell.row ≡ i / k
     pub column_is : x.cell.column ≡ i % k
-    pub number_is : amount_in (i % k) x.cell.value ≡ Is m
+    pub number_is : amount_in (i % k) x.cell.value ≡ Some m
     pub above : i % k ≡ 2 → seconds ≤ m
 
-  abbrev Says : ℕ → Amount → Type 0
-  Says m y = y ≡ Is m → Placed-right m
+  abbrev Says : ℕ → Option ℕ → Type 0
+  Says m y = y ≡ Some m → Placed-right m
 
   right_amount : (m : ℕ) → Says m (amount_at k i seconds x.cell)
   unfolding amount_at
@@ -94,18 +92,18 @@ module _ (k i seconds n : ℕ) (x : Placed) (l : List Placed) where
       (λ _ e. never (cc)))
       (λ _ e. never (cc))
 
-  right_by : (a : Amount) → amount_at k i seconds x.cell ≡ a → on_amount (Broken x.at) (λ m. judged_from k (i + 1) (seconds_after (i % k) seconds m) l) a ≡ Rows n → Right-cell
-  right_by (Is m) h e = let r = right_amount m h in record { row = r.row_is; column = r.column_is; number = m; is = r.number_is; risen_by = r.above; after = seconds_after (i % k) seconds m; after_is = refl; rest = e }
-  right_by Unfit h e = never (cc)
+  right_by : (a : Option ℕ) → amount_at k i seconds x.cell ≡ a → on_amount (refuse 20 x.at) (λ m. judged_from k (i + 1) (seconds_after (i % k) seconds m) l) a ≡ Ok n → Right-cell
+  right_by (Some m) h e = let r = right_amount m h in record { row = r.row_is; column = r.column_is; number = m; is = r.number_is; risen_by = r.above; after = seconds_after (i % k) seconds m; after_is = refl; rest = e }
+  right_by None h e = never (cc)
 
-  pub right_cell : judged_from k i seconds (x ∷ l) ≡ Rows n → Right-cell
+  pub right_cell : judged_from k i seconds (x ∷ l) ≡ Ok n → Right-cell
   unfolding judged_from
   right_cell e = right_by (amount_at k i seconds x.cell) refl e
 
-pub ended_rows : (k n i : ℕ) → ended_at k i ≡ Rows n → (i % k ≡ 0) × (i / k ≡ n)
+pub ended_rows : (k n i : ℕ) → ended_at k i ≡ Ok n → (i % k ≡ 0) × (i / k ≡ n)
 unfolding ended_at
 ended_rows k n i =
-    pick_by (λ (x : Judged). x ≡ Rows n → (i % k ≡ 0) × (i / k ≡ n)) (eqb (i % k) 0)
+    pick_by (λ (x : Result ℕ Refusal). x ≡ Ok n → (i % k ≡ 0) × (i / k ≡ n)) (eqb (i % k) 0)
     (λ h e. (eqb-true (i % k) 0 h, let f : i / k ≡ n = cc in f))
     (λ _ e. never (cc))
 
@@ -116,7 +114,7 @@ module _ (k n : ℕ) where
 
   -- what holds of each right cell by its number holds of the j-th
   judged_nth : (f : Placed → ℕ) (g : ℕ → ℕ) → ((i t : ℕ) (x : Placed) (l : List Placed) → Right-cell k i t n x l → f x ≡ g i)
-      → (l : List Placed) (i t : ℕ) → judged_from k i t l ≡ Rows n → (j : ℕ) → j < length l → nth l j f 0 ≡ g (i + j)
+      → (l : List Placed) (i t : ℕ) → judged_from k i t l ≡ Ok n → (j : ℕ) → j < length l → nth l j f 0 ≡ g (i + j)
   unfolding nth
   judged_nth f g is [] i t e j h = absurd (omega arith)
   judged_nth f g is (x ∷ l) i t e zero h = is i t x l (right_cell k i t n x l e) ∙ ap g (sym (add-zero i))
@@ -124,7 +122,7 @@ module _ (k n : ℕ) where
       let r = right_cell k i t n x l e in
       judged_nth f g is l (i + 1) r.after r.rest j (omega arith) ∙ ap g (shift i j)
 
-  pub judged_count : (l : List Placed) (i seconds : ℕ) → judged_from k i seconds l ≡ Rows n → i + length l ≡ n * k
+  pub judged_count : (l : List Placed) (i seconds : ℕ) → judged_from k i seconds l ≡ Ok n → i + length l ≡ n * k
   unfolding judged_from
   judged_count [] i t e =
       let r = ended_rows k n i e in
@@ -146,15 +144,15 @@ abbrev number_of : Placed → ℕ
 number_of x = on_amount 0 (λ n. n) (amount_in 2 x.cell.value)
 
 -- from a cell of column 2 to the next, three cells on
-seconds_four : (n i t : ℕ) (x y z w : Placed) (l : List Placed) → judged_from 3 i t (x ∷ y ∷ z ∷ w ∷ l) ≡ Rows n → i % 3 ≡ 2 → number_of x ≤ number_of w
+seconds_four : (n i t : ℕ) (x y z w : Placed) (l : List Placed) → judged_from 3 i t (x ∷ y ∷ z ∷ w ∷ l) ≡ Ok n → i % 3 ≡ 2 → number_of x ≤ number_of w
 seconds_four n i t x y z w l e h =
     let a = right_cell 3 i t n x (y ∷ z ∷ w ∷ l) e in
     let b = right_cell 3 (i + 1) a.after n y (z ∷ w ∷ l) a.rest in
     let c = right_cell 3 (i + 1 + 1) b.after n z (w ∷ l) b.rest in
     let d = right_cell 3 (i + 1 + 1 + 1) c.after n w l c.rest in
     let again : (i + 1 + 1 + 1) % 3 ≡ 2 = omega arith in
-    let first : amount_in 2 x.cell.value ≡ Is a.number = ap (λ (j : ℕ). amount_in j x.cell.value) (sym h) ∙ a.is in
-    let last : amount_in 2 w.cell.value ≡ Is d.number = ap (λ (j : ℕ). amount_in j w.cell.value) (sym again) ∙ d.is in
+    let first : amount_in 2 x.cell.value ≡ Some a.number = ap (λ (j : ℕ). amount_in j x.cell.value) (sym h) ∙ a.is in
+    let last : amount_in 2 w.cell.value ≡ Some d.number = ap (λ (j : ℕ). amount_in j w.cell.value) (sym again) ∙ d.is in
     let u : number_of x ≡ a.number = ap (on_amount 0 (λ n. n)) first in
     let v : number_of w ≡ d.number = ap (on_amount 0 (λ n. n)) last in
     let p : a.after ≡ a.number = a.after_is ∙ seconds_new (i % 3) t a.number h in
@@ -163,7 +161,7 @@ seconds_four n i t x y z w l e h =
     let m : c.after ≤ d.number = d.risen_by again in
     omega arith
 
-seconds_three : (n : ℕ) (l : List Placed) (i t : ℕ) → judged_from 3 i t l ≡ Rows n → (j : ℕ) → j + 3 < length l → (i + j) % 3 ≡ 2 → seconds_at l j ≤ nth l (suc (suc (suc j))) number_of 0
+seconds_three : (n : ℕ) (l : List Placed) (i t : ℕ) → judged_from 3 i t l ≡ Ok n → (j : ℕ) → j + 3 < length l → (i + j) % 3 ≡ 2 → seconds_at l j ≤ nth l (suc (suc (suc j))) number_of 0
 unfolding nth
 seconds_three n [] i t e j h o = absurd (omega arith)
 seconds_three n (x ∷ []) i t e j h o = absurd (omega arith)
@@ -175,10 +173,10 @@ seconds_three n (x ∷ y ∷ z ∷ w ∷ l) i t e (suc j) h o =
     let s : i + 1 + j ≡ i + suc j = omega arith in
     seconds_three n (y ∷ z ∷ w ∷ l) (i + 1) r.after r.rest j (omega arith) (ap (λ (m : ℕ). m % 3) s ∙ o)
 
-seconds_rise : (n k : ℕ) → TwoOrThree k → (l : List Placed) → judged_from k 0 0 l ≡ Rows n → (j : ℕ) → j + 3 < length l → j % k ≡ 2 → seconds_at l j ≤ seconds_at l (j + 3)
+seconds_rise : (n k : ℕ) → TwoOrThree k → (l : List Placed) → judged_from k 0 0 l ≡ Ok n → (j : ℕ) → j + 3 < length l → j % k ≡ 2 → seconds_at l j ≤ seconds_at l (j + 3)
 seconds_rise n k (inl q) l e j h o = absurd (let f : j % 2 ≡ 2 = ap (λ (m : ℕ). j % m) (sym q) ∙ o in omega arith)
 seconds_rise n k (inr q) l e j h o =
-    let f : judged_from 3 0 0 l ≡ Rows n = ap (λ (m : ℕ). judged_from m 0 0 l) (sym q) ∙ e in
+    let f : judged_from 3 0 0 l ≡ Ok n = ap (λ (m : ℕ). judged_from m 0 0 l) (sym q) ∙ e in
     let g : (0 + j) % 3 ≡ 2 = ap (λ (m : ℕ). m % 3) (zero-add j) ∙ ap (λ (m : ℕ). j % m) (sym q) ∙ o in
     let p : suc (suc (suc j)) ≡ j + 3 = omega arith in
     subst (λ (m : ℕ). seconds_at l j ≤ seconds_at l m) p (seconds_three n l 0 0 f j h g)
@@ -186,7 +184,7 @@ seconds_rise n k (inr q) l e j h o =
 -- ---- a stream inside the profile
 pub record Session-of (s : List ℕ) (n k : ℕ) (v : Place) : Type 0 where
   pub columns : TwoOrThree k
-  pub judged : judged_from k 0 0 (placed_from s v) ≡ Rows n
+  pub judged : judged_from k 0 0 (placed_from s v) ≡ Ok n
 
 third_two : (c : Cell) → TwoOrThree (third_of c)
 unfolding third_of
@@ -200,16 +198,18 @@ columns_two (x ∷ y ∷ []) = inl refl
 columns_two (x ∷ y ∷ z ∷ l) = third_two z
 
 module _ (s : List ℕ) (n k : ℕ) (v : Place) where
-  abbrev Is-session : Session → Type 0
-  Is-session x = x ≡ Inside n k v → Session-of s n k v
+  abbrev Is-session : Result Session Refusal → Type 0
+  Is-session x = x ≡ Ok (record { rows = n; columns = k; cells = v }) → Session-of s n k v
 
-  session_judged : (w : Place) (j : ℕ) → TwoOrThree j → (x : Judged) → judged_from j 0 0 (placed_from s w) ≡ x → Is-session (on_judged w j x)
-  session_judged w j t (Rows m) h e =
-      let f : w ≡ v = cc in
-      let g : j ≡ k = cc in
-      let i : m ≡ n = cc in
-      record { columns = subst TwoOrThree g t; judged = (λ y. judged_from (sym g y) 0 0 (placed_from s (sym f y))) ∙ h ∙ ap Rows i }
-  session_judged w j t (Broken o) h e = never (cc)
+  session_judged : (w : Place) (j : ℕ) → TwoOrThree j → (x : Result ℕ Refusal) → judged_from j 0 0 (placed_from s w) ≡ x → Is-session (on_judged w j x)
+  session_judged w j t (Ok m) h e =
+      let same : ◌≡◌ {A = Session} (record { rows = m; columns = j; cells = w }) (record { rows = n; columns = k; cells = v }) = cc in
+      let g : j ≡ k = ap (λ (x : Session). x.columns) same in
+      record {
+        columns = subst TwoOrThree g t;
+        judged = (λ y. judged_from (sym g y) 0 0 (placed_from s (sym same y).cells)) ∙ h ∙ ap (λ (x : Session). Ok x.rows) same;
+      }
+  session_judged w j t (Err o) h e = never (cc)
 
   session_at : (w : Place) → Is-session (profile_at s w)
   unfolding profile_at
@@ -217,14 +217,20 @@ module _ (s : List ℕ) (n k : ℕ) (v : Place) where
 
   session_sheets : (l : List Sheet) → Is-session (on_sheets s l)
   session_sheets [] e = never (cc)
-  session_sheets (x ∷ []) e = pick_by Is-session (eqb x.kind 1) (λ _ f. session_at (start_of s x) f) (λ _ f. never (cc)) e
+  session_sheets (x ∷ []) e = of_kind x.kind e
+    where
+      of_kind : (k : SheetKind) → Is-session (of_worksheet k (profile_at s (start_of s x)))
+      of_kind Worksheet f = session_at (start_of s x) f
+      of_kind Chart f = never (cc)
+      of_kind Macro f = never (cc)
+      of_kind Other f = never (cc)
   session_sheets (x ∷ y ∷ l) e = never (cc)
 
-  session_checked : (r : Checked) → Is-session (on_checked Refused (λ _. on_sheets s (sheets_of s)) r)
-  session_checked (Right g) e = session_sheets (sheets_of s) e
-  session_checked (Wrong m o) e = never (cc)
+  session_checked : (r : Checked) → Is-session (on_checked refuse (λ _. on_sheets s (sheets_of s)) r)
+  session_checked (Ok g) e = session_sheets (sheets_of s) e
+  session_checked (Err r) e = never (cc)
 
-  pub is_session : profile_of s ≡ Inside n k v → Session-of s n k v
+  pub is_session : profile_of s ≡ Ok (record { rows = n; columns = k; cells = v }) → Session-of s n k v
   unfolding profile_of
   is_session e = session_checked (checked_of s 0) e
 

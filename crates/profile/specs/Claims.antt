@@ -1,13 +1,11 @@
 -- What holds of the cells that are judged.
-use Rattle.std.specs.Prelude.{ℕ, ◌+◌, ◌*◌, ◌/◌, ◌%◌, ◌≤◌, ◌<◌, ◌≡◌, List, [], map, ◌⊎◌, length}
+use Rattle.std.specs.Prelude.{ℕ, ◌+◌, ◌*◌, ◌/◌, ◌%◌, ◌≤◌, ◌<◌, ◌≡◌, List, [], map, ◌⊎◌, length, Some, Ok}
 use Rattle.steps.specs.Items.{nth}
-use Rattle.number.specs.declared.Amount.TheVariants.{Is}
 use Rattle.value.specs.declared.Field.{Field}
 use Rattle.value.specs.declared.Field.TheVariants.{Float, RkWord}
 use Rattle.value.specs.Value.{value_of}
 use Rattle.reading.specs.declared.Place.{Place}
 use Rattle.reading.specs.Cells.{listed_from}
-use Rattle.profile.specs.declared.Session.TheVariants.{Inside}
 use Rattle.profile.specs.Placed.{Placed, placed_from}
 use Rattle.profile.specs.Profile.{amount_in, on_amount, profile_at, profile_of}
 
@@ -17,7 +15,7 @@ PlacedListed = (s : List ℕ) (v : Place) → map (λ (x : Placed). x.cell) (pla
 
 -- only a value field of NUMBER, RK or MULRK has a number of a session
 abbrev pub NumbersOnly : Type 0
-NumbersOnly = (column n m : ℕ) (f : Field) → amount_in column (value_of f n) ≡ Is m → (f ≡ Float) ⊎ (f ≡ RkWord)
+NumbersOnly = (column n m : ℕ) (f : Field) → amount_in column (value_of f n) ≡ Some m → (f ≡ Float) ⊎ (f ≡ RkWord)
 
 -- the seconds of the i-th cell
 abbrev pub seconds_at : List Placed → ℕ → ℕ
@@ -31,8 +29,8 @@ pub record Filled (l : List Placed) (rows columns : ℕ) : Type 0 where
   pub seconds : (i : ℕ) → i + 3 < length l → i % columns ≡ 2 → seconds_at l i ≤ seconds_at l (i + 3)
 
 abbrev pub SessionFilled : Type 0
-SessionFilled = (s : List ℕ) (rows columns : ℕ) (v : Place) → profile_of s ≡ Inside rows columns v → Filled (placed_from s v) rows columns
+SessionFilled = (s : List ℕ) (rows columns : ℕ) (v : Place) → profile_of s ≡ Ok (record { rows = rows; columns = columns; cells = v }) → Filled (placed_from s v) rows columns
 
 -- a worksheet without cells is inside
 abbrev pub EmptyInside : Type 0
-EmptyInside = (s : List ℕ) (v : Place) → listed_from s v ≡ [] → profile_at s v ≡ Inside 0 2 v
+EmptyInside = (s : List ℕ) (v : Place) → listed_from s v ≡ [] → profile_at s v ≡ Ok (record { rows = 0; columns = 2; cells = v })

@@ -2,3 +2,4 @@ pub mod Placed
 pub mod Profile
 pub mod Claims
 pub mod Parts
+pub mod Left

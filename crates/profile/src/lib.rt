@@ -1,310 +1,257 @@
 // The session profile: whether a stream is of the kind that the sensors write.
 #![tactic(auto)]
 
-ghost use Rattle.std.specs.Prelude.{◌≡◌, ◌<◌, ◌/◌, ◌%◌};
-ghost use Rattle.steps.specs.Items.{nth};
+ghost use Rattle.std.specs.Prelude.{◌≡◌, ◌<◌, ◌/◌, ◌%◌, OnSome};
 ghost use Rattle.reading.specs.Cells.{listed_from};
 ghost use Rattle.listing.specs.Listing.{next_of};
 ghost use Rattle.profile.specs.Placed.{placed_from};
-ghost use Rattle.profile.specs.Profile.{limit_of, amount_in, third_of, columns_of, risen, amount_at, seconds_after, ended_at, judged_from, profile_at, profile_of};
-ghost use Rattle.profile.specs.Parts.{TwoOrThree, Early, listed_in, on_placed};
+ghost use Rattle.profile.specs.Profile.{limit_of, amount_in, columns_of, amount_at, seconds_after, ended_at, judged_from, profile_at, profile_of};
+ghost use Rattle.profile.specs.Parts.{count_of, listed_in, on_placed, third_cell, outside};
 
 use cell::Cell;
-use listing::{Sought, Step};
-use number::Amount;
+use listing::{ListedCells, Sought, Step};
 use reading::Place;
+use refusal::Refusal;
+use sheet_agreement::SheetKind;
 use value::CellValue;
-use workbook::Checked;
 
-// The next cell with the offset of its record's header, and the place after it; or the end of the sheet.
+// The next cell with the offset of its record's header, and the place after it.
 #[derive(Clone, Copy)]
-pub enum NextPlaced {
-    Cell { at: usize, cell: Cell, next: Place },
-    End,
+pub struct NextPlaced {
+    pub at: usize,
+    pub cell: Cell,
+    pub next: Place,
 }
 
-// How many rows, or the offset of the record of the first cell that breaks the profile.
+// How many rows and columns, and where the cells start.
 #[derive(Clone, Copy)]
-pub enum Judged {
-    Rows(u32),
-    Broken(usize),
-}
-
-// How many rows and columns, and where the cells start; or the refusal's number and offset.
-#[derive(Clone, Copy)]
-pub enum Session {
-    Inside {
-        rows: u32,
-        columns: u32,
-        cells: Place,
-    },
-    Refused {
-        number: u8,
-        offset: usize,
-    },
+pub struct Session {
+    pub rows: u32,
+    pub columns: u32,
+    pub cells: Place,
 }
 
 // The next cell from a place on, as `listing::next_cell` gives it, and where its record stands.
-pub fn next_with_record(s: &[u8], from: Place) -> NextPlaced
+#[tactic(auto, using(crate::proofs::Placed::placed_laws))]
+pub fn next_with_record(s: &[u8], from: Place) -> Option<NextPlaced>
     ensures result_value { listed_in result ≡ next_of s.now from }
     ensures from_value { placed_from s.now from ≡ on_placed s.now result }
 {
     let mut v = from;
+    // The record itself says where the next one starts: there is no index to count.
     loop {
         match listing::step_at(s, v) {
             Step::Gives { cell, next } => {
-                return NextPlaced::Cell {
+                return Some(NextPlaced {
                     at: v.at,
                     cell,
                     next,
-                };
+                });
             }
             Step::Skips(next) => {
                 v = reading::past_from(s, next);
             }
             Step::Ends => {
-                return NextPlaced::End;
+                return None;
             }
+        }
+    }
+}
+
+// The listed cells from a place on, in order, each with the offset of its record's header.
+#[derive(Clone, Copy)]
+struct PlacedCells<'a> {
+    stream: &'a [u8],
+    place: Place,
+}
+
+impl<'a> Iterator for PlacedCells<'a> {
+    ghost use Rattle.std.specs.Iterator.{YieldsFirstBy, item_count};
+    ghost use Rattle.profile.specs.Left.{placed, left};
+
+    type Item = NextPlaced;
+
+    ghost next_gives = { YieldsFirstBy placed left };
+
+    ghost remaining = { item_count left };
+
+    #[inline(always)]
+    #[tactic(auto, using(crate::proofs::Laws::placed_none, crate::proofs::Laws::placed_some))]
+    fn next(&mut self) -> Option<NextPlaced> {
+        let placed = next_with_record(self.stream, self.place)?;
+        self.place = placed.next;
+        Some(placed)
+    }
+}
+
+// ---- how many columns a session has, and where its i-th cell stands
+
+#[derive(Clone, Copy)]
+enum Columns {
+    Two,
+    Three,
+}
+
+impl Columns {
+    fn count(self) -> u32
+        ensures { result ≡ count_of self }
+    {
+        match self {
+            Columns::Two => 2,
+            Columns::Three => 3,
+        }
+    }
+
+    fn row(self, i: u32) -> u32
+        ensures { result ≡ i / count_of self }
+    {
+        match self {
+            Columns::Two => i / 2,
+            Columns::Three => i / 3,
+        }
+    }
+
+    fn column(self, i: u32) -> u32
+        ensures { result ≡ i % count_of self }
+    {
+        match self {
+            Columns::Two => i % 2,
+            Columns::Three => i % 3,
         }
     }
 }
 
 // ---- a cell
 
+#[tactic(auto, unfolding(crate::specs::Profile::limit_of, steps::specs::Choice::pick))]
 fn limit_of(column: u32) -> u32
     ensures { result ≡ limit_of column }
 {
-    if column == 2 {
-        return 4294967295;
-    }
-    65535
+    if column == 2 { u32::MAX } else { 65535 }
 }
 
 // What a value says in a column: the whole number, within the column's limit.
-pub fn amount_in(column: u32, value: CellValue) -> Amount
+pub fn amount_in(column: u32, value: CellValue) -> Option<u32>
     ensures { result ≡ amount_in column value }
 {
     match value {
-        CellValue::Blank => Amount::Unfit,
         CellValue::Number(x) => number::amount_of(limit_of(column), number::bits_of(x)),
-        CellValue::NotNumber(_) => Amount::Unfit,
-        CellValue::Text(_) => Amount::Unfit,
-        CellValue::Truth(_) => Amount::Unfit,
-        CellValue::Error(_) => Amount::Unfit,
-        CellValue::Formula(_) => Amount::Unfit,
+        _ => None,
     }
 }
 
-fn wide(x: u16) -> u32
-    ensures { (result ≡ x) × (result < 65536) }
+// What the i-th cell says, if it breaks nothing; then it is in one of the first 65,536 rows.
+#[tactic(auto, using(std::proofs::lemmas::Bool::Decides::nat_tests), unfolding(crate::specs::Profile::amount_at, steps::specs::Choice::pick))]
+fn amount_at(columns: Columns, i: u32, seconds: u32, cell: Cell) -> Option<u32>
+    ensures value { result ≡ amount_at (count_of columns) i seconds cell }
+    ensures early { OnSome result (i < 196608) }
 {
-    x as u32
+    let column = columns.column(i);
+    if u32::from(cell.row) != columns.row(i) || u32::from(cell.column) != column {
+        return None;
+    }
+    let n = amount_in(column, cell.value)?;
+    if column == 2 && n < seconds {
+        return None;
+    }
+    Some(n)
 }
 
-// The row and the column of the i-th cell.
-fn row_of(columns: u32, i: u32) -> u32
-    requires { TwoOrThree columns }
-    ensures { result ≡ i / columns }
-{
-    if columns == 3 {
-        return i / 3;
-    }
-    i / 2
-}
-
-fn column_of(columns: u32, i: u32) -> u32
-    requires { TwoOrThree columns }
-    ensures { result ≡ i % columns }
-{
-    if columns == 3 {
-        return i % 3;
-    }
-    i % 2
-}
-
-fn not_fallen(column: u32, seconds: u32, amount: Amount) -> Amount
-    ensures { result ≡ risen column seconds amount }
-{
-    match amount {
-        Amount::Is(n) => {
-            if column == 2 {
-                if n < seconds {
-                    return Amount::Unfit;
-                }
-                return Amount::Is(n);
-            }
-            Amount::Is(n)
-        }
-        Amount::Unfit => Amount::Unfit,
-    }
-}
-
-// What the i-th cell says, if it breaks nothing.
-fn amount_at(columns: u32, i: u32, seconds: u32, cell: Cell) -> Amount
-    requires { TwoOrThree columns }
-    ensures value { result ≡ amount_at columns i seconds cell }
-    ensures early { Early i result }
-{
-    let row = wide(cell.row);
-    if row != row_of(columns, i) {
-        return Amount::Unfit;
-    }
-    let column = column_of(columns, i);
-    if wide(cell.column) != column {
-        return Amount::Unfit;
-    }
-    let value = cell.value;
-    not_fallen(column, seconds, amount_in(column, value))
-}
-
+#[tactic(auto, unfolding(crate::specs::Profile::seconds_after, steps::specs::Choice::pick))]
 fn seconds_after(column: u32, seconds: u32, n: u32) -> u32
     ensures { result ≡ seconds_after column seconds n }
 {
-    if column == 2 {
-        return n;
-    }
-    seconds
+    if column == 2 { n } else { seconds }
 }
 
 // ---- the cells
 
-fn third(cell: Cell) -> u32
-    ensures value { result ≡ third_of cell }
-    ensures two_or_three { TwoOrThree result }
+// The third listed cell from a place on.
+fn third_cell(s: &[u8], from: Place) -> Option<Cell>
+    ensures { result ≡ third_cell (listed_from s.now from) }
 {
-    if cell.row == 0 {
-        if cell.column == 2 {
-            return 3;
-        }
-        return 2;
-    }
-    2
-}
-
-// How many columns, by the next cell from a place on: the third.
-fn columns_by(s: &[u8], from: Place) -> u32
-    ensures value { result ≡ nth (listed_from s.now from) 0 third_of 2 }
-    ensures two_or_three { TwoOrThree result }
-{
-    match next_with_record(s, from) {
-        NextPlaced::Cell {
-            at: _,
-            cell,
-            next: _,
-        } => third(cell),
-        NextPlaced::End => 2,
-    }
-}
-
-fn columns(s: &[u8], from: Place) -> u32
-    ensures value { result ≡ columns_of (listed_from s.now from) }
-    ensures two_or_three { TwoOrThree result }
-{
-    let NextPlaced::Cell {
-        at: _,
-        cell: _,
-        next: second,
-    } = next_with_record(s, from)
-    else {
-        return 2;
+    let mut cells = ListedCells {
+        stream: s,
+        place: from,
     };
-    let NextPlaced::Cell {
-        at: _,
-        cell: _,
-        next: last,
-    } = next_with_record(s, second)
-    else {
-        return 2;
-    };
-    columns_by(s, last)
+    cells.nth(2)
 }
 
-fn ended(columns: u32, i: u32) -> Judged
-    requires { TwoOrThree columns }
-    ensures { result ≡ ended_at columns i }
+#[tactic(auto, using(crate::proofs::Laws::columns_by, std::proofs::lemmas::Bool::Decides::nat_tests), unfolding(crate::specs::Profile::third_of, steps::specs::Choice::pick))]
+fn columns_from(s: &[u8], from: Place) -> Columns
+    ensures { count_of result ≡ columns_of (listed_from s.now from) }
 {
-    if column_of(columns, i) == 0 {
-        return Judged::Rows(row_of(columns, i));
+    match third_cell(s, from) {
+        Some(cell) if cell.row == 0 && cell.column == 2 => Columns::Three,
+        _ => Columns::Two,
     }
-    Judged::Broken(0)
 }
 
-fn judge(s: &[u8], columns: u32, from: Place) -> Judged
-    requires { TwoOrThree columns }
-    ensures { result ≡ judged_from columns 0 0 (placed_from s.now from) }
+fn outside(offset: usize) -> Refusal
+    ensures { result ≡ outside offset }
 {
-    let mut v = from;
+    Refusal { number: 20, offset }
+}
+
+#[tactic(auto, unfolding(crate::specs::Profile::ended_at, steps::specs::Choice::pick))]
+fn ended(columns: Columns, i: u32) -> Result<u32, Refusal>
+    ensures { result ≡ ended_at (count_of columns) i }
+{
+    if columns.column(i) == 0 {
+        return Ok(columns.row(i));
+    }
+    Err(outside(0))
+}
+
+// How many rows, or the record of the first cell that breaks the profile.
+#[tactic(auto, using(crate::proofs::Laws::judge_laws))]
+fn judge(s: &[u8], columns: Columns, from: Place) -> Result<u32, Refusal>
+    ensures { result ≡ judged_from (count_of columns) 0 0 (placed_from s.now from) }
+{
     let mut i: u32 = 0;
     let mut seconds: u32 = 0;
-    loop {
-        match next_with_record(s, v) {
-            NextPlaced::Cell { at, cell, next } => match amount_at(columns, i, seconds, cell) {
-                Amount::Is(n) => {
-                    seconds = seconds_after(column_of(columns, i), seconds, n);
-                    i += 1;
-                    v = next;
-                }
-                Amount::Unfit => {
-                    return Judged::Broken(at);
-                }
-            },
-            NextPlaced::End => {
-                return ended(columns, i);
-            }
-        }
+    for placed in (PlacedCells {
+        stream: s,
+        place: from,
+    }) {
+        let n = amount_at(columns, i, seconds, placed.cell).ok_or(outside(placed.at))?;
+        seconds = seconds_after(columns.column(i), seconds, n);
+        i += 1;
     }
+    ended(columns, i)
 }
 
 // ---- the stream
 
-fn profile_at(s: &[u8], from: Place) -> Session
+#[tactic(auto, unfolding(crate::specs::Profile::profile_at))]
+fn profile_at(s: &[u8], from: Place) -> Result<Session, Refusal>
     ensures { result ≡ profile_at s.now from }
 {
-    let k = columns(s, from);
-    match judge(s, k, from) {
-        Judged::Rows(rows) => Session::Inside {
-            rows,
-            columns: k,
-            cells: from,
-        },
-        Judged::Broken(offset) => Session::Refused { number: 20, offset },
-    }
-}
-
-fn outside() -> Session
-    ensures { result ≡ Session.Refused 20 0 }
-{
-    Session::Refused {
-        number: 20,
-        offset: 0,
-    }
+    let columns = columns_from(s, from);
+    let rows = judge(s, columns, from)?;
+    Ok(Session {
+        rows,
+        columns: columns.count(),
+        cells: from,
+    })
 }
 
 // Whether a stream is inside the profile.
-pub fn profile(s: &[u8]) -> Session
+#[tactic(auto, using(crate::proofs::Laws::profile_laws))]
+pub fn profile(s: &[u8]) -> Result<Session, Refusal>
     ensures { result ≡ profile_of s.now }
 {
-    match workbook::check_with(s, 0) {
-        Checked::Wrong { number, offset } => Session::Refused { number, offset },
-        Checked::Right(_) => match listing::find_sheet(s, 0) {
-            Sought::Sheet {
-                header: _,
+    workbook::check_with(s, 0)?;
+    match listing::find_sheet(s, 0) {
+        Some(
+            Sought {
                 position,
-                kind,
-            } => {
-                if kind != 1 {
-                    return outside();
-                }
-                match listing::find_sheet(s, 1) {
-                    Sought::Sheet {
-                        header: _,
-                        position: _,
-                        kind: _,
-                    } => outside(),
-                    Sought::Absent => profile_at(s, listing::first_place(s, position, kind)),
-                }
-            }
-            Sought::Absent => outside(),
-        },
+                kind: SheetKind::Worksheet,
+                ..
+            },
+        ) if listing::find_sheet(s, 1).is_none() => {
+            profile_at(s, listing::first_place(s, position, SheetKind::Worksheet))
+        }
+        _ => Err(outside(0)),
     }
 }

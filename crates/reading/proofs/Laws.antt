@@ -6,9 +6,10 @@ use mathlib.Core.Bool.{Bool, true, false}
 use native.Mathlib.Omega.{arith}
 use native.Mathlib.Nat.{add-zero}
 use lib.Dec.{ltb, eqb}
+use Rattle.std.specs.Prelude.{Option, None, Some}
 use borrow.Author.Tests.{ltb-true, ltb-false}
 use Rattle.steps.specs.Choice.{pick}
-use Rattle.steps.proofs.Choice.{pick_any, pick_by, pick_eq, pick_ne, pick_lt, pick_nlt}
+use Rattle.steps.proofs.Choice.{never, pick_any, pick_by, pick_eq, pick_ne, pick_lt, pick_nlt}
 use Rattle.steps.specs.Items.{Item, gives, onto}
 use Rattle.steps.proofs.Items.{Nearer, collect_step}
 use Rattle.record.specs.declared.Header.{Header}
@@ -20,7 +21,6 @@ use Rattle.cell.specs.declared.Shape.{Shape}
 use Rattle.cell.specs.declared.Shape.TheVariants.{BLANK, NUMBER, RK, LABELSST, BOOLERR, MULRK, MULBLANK, FORMULA, OTHER}
 use Rattle.cell.specs.declared.Cell.{Cell}
 use Rattle.cell.specs.declared.Found.{Found}
-use Rattle.cell.specs.declared.Found.TheVariants.{There, Absent}
 use Rattle.cell.specs.Cells.{shape_of, field_of, part_of, row_at, first_at, sized, multiple, count_of, cells_from, cells_of, cell_of, found_of}
 use Rattle.cell.proofs.Sizes.{multiple_below}
 use Rattle.reading.specs.declared.Place.{Place}
@@ -56,18 +56,20 @@ pub record Here (s : List ℕ) (h : Shape) (at z k : ℕ) (c : Cell) (left : ℕ
   pub cell : c ≡ cell_of s (field_of h) at k
 
 module _ (s : List ℕ) (h : Shape) (at z k : ℕ) where
-  pub found_there : (c : Cell) (left : ℕ) → found_of s h at z k ≡ There c left → Here s h at z k c left
+  pub found_there : (f : Found) → found_of s h at z k ≡ Some f → Here s h at z k f.cell f.left
   unfolding found_of
-  found_there c left e =
-      pick_by (λ (x : Found). x ≡ There c left → Here s h at z k c left) (ltb k (count_of h s at z))
-      (λ i j. (let a : count_of h s at z - (k + 1) ≡ left = cc in let b : cell_of s (field_of h) at k ≡ c = cc in record { below = ltb-true k (count_of h s at z) i; after = sym a; cell = sym b }))
-      (λ _ j. absurd (let n : ◌≡◌ {A = ℕ} 0 1 = cc in omega arith)) e
+  found_there f e =
+      pick_by (λ (x : Option Found). x ≡ Some f → Here s h at z k f.cell f.left) (ltb k (count_of h s at z))
+      (λ i j. (
+      let is : ◌≡◌ {A = Found} (record { cell = cell_of s (field_of h) at k; left = count_of h s at z - (k + 1) }) f = cc in
+      record { below = ltb-true k (count_of h s at z) i; after = sym (ap (λ (x : Found). x.left) is); cell = sym (ap (λ (x : Found). x.cell) is) }))
+      (λ _ j. never (cc)) e
 
-  pub found_is : k < count_of h s at z → There (cell_of s (field_of h) at k) (count_of h s at z - (k + 1)) ≡ found_of s h at z k
+  pub found_is : k < count_of h s at z → Some (record { cell = cell_of s (field_of h) at k; left = count_of h s at z - (k + 1) }) ≡ found_of s h at z k
   unfolding found_of
   found_is l = pick_lt _ _ _ _ _ l refl
 
-  pub found_absent : count_of h s at z ≤ k → Absent ≡ found_of s h at z k
+  pub found_absent : count_of h s at z ≤ k → None ≡ found_of s h at z k
   unfolding found_of
   found_absent l = pick_nlt _ _ _ _ _ l refl
 
@@ -87,12 +89,12 @@ module _ (s : List ℕ) (v : Place) (t z e : ℕ) (w : Whole s v.at t z e) where
   near_next left true i l = omega arith
   near_next left false i l = omega arith
 
-  near_found : (x : Found) → found_of s (shape_of t) v.at z v.part ≡ x → Near (on_found v t e x)
-  near_found (There c left) h =
-      let f = found_there s (shape_of t) v.at z v.part c left h in
+  near_found : (x : Option Found) → found_of s (shape_of t) v.at z v.part ≡ x → Near (on_found v t e x)
+  near_found (Some f) h =
+      let i = found_there s (shape_of t) v.at z v.part f h in
       let n = count_small (shape_of t) s v.at z in
-      near_next left (eqb left 0) refl (omega arith)
-  near_found Absent h = near_other
+      near_next f.left (eqb f.left 0) refl (omega arith)
+  near_found None h = near_other
 
   near_record : Near (record_item s v t z e)
   unfolding record_item

@@ -1,15 +1,16 @@
 -- The laws of a scan, with what a call gave as the proofs have it, and what a scanned record says of the listing. Assumes nothing.
-use Prim.Native.Nat.{ℕ, ◌+◌, ◌-◌, ◌^◌, ◌≤◌, ◌<◌}
+use Prim.Native.Nat.{ℕ, ◌+◌, ◌-◌, ◌≤◌, ◌<◌}
 use mathlib.Core.Path.{◌≡◌, refl, sym, ap, ◌∙◌, subst}
 use mathlib.Core.Bool.{Bool, true, false}
 use mathlib.Core.List.{List, [], ◌++◌}
 use native.Mathlib.Omega.{arith}
 use lib.Dec.{eqb}
 use lib.ListN.{length}
+use Rattle.std.specs.Prelude.{Option, None, Some}
 use borrow.Author.Tests.{eqb-true, eqb-false}
 use Rattle.steps.specs.Choice.{pick}
 use Rattle.steps.proofs.Choice.{pick_any, pick_by, pick_eq, pick_ne, never}
-use Rattle.steps.specs.Items.{Item, skips, ends, onto}
+use Rattle.steps.specs.Items.{Item, gives, skips, ends, onto}
 use Rattle.record.specs.declared.Header.{Header}
 use Rattle.record.specs.declared.Header.TheVariants.{Record, Cut, End}
 use Rattle.record.specs.Record.{header_at}
@@ -20,14 +21,12 @@ use Rattle.cell.specs.declared.Shape.TheVariants.{BLANK, NUMBER, RK, LABELSST, B
 use Rattle.cell.specs.Cells.{shape_of, is_cell, row_at, first_at, count_of, cells_of}
 use Rattle.cell.proofs.Sizes.{count_room}
 use Rattle.reading.specs.declared.Place.{Place}
-use Rattle.reading.specs.Parts.{outside_item}
 use Rattle.reading.specs.Cells.{place_at, other_item, on_found, record_item, on_header as item_on, cell_item, remaining, listed_from}
 use Rattle.reading.proofs.Laws.{count_small, found_absent, listed_step, record_cells}
-use Rattle.reading.specs.declared.Outside.{Outside}
-use Rattle.reading.specs.declared.Outside.TheVariants as outside
+use Rattle.reading.specs.declared.RecordCells.{RecordCells}
 use Rattle.reading.specs.declared.Scanned.{Scanned}
 use Rattle.reading.specs.declared.Scanned.TheVariants as scanned
-use Rattle.reading.specs.Scan.{past, without, record_scan, on_header, scan_of, other, Leads, here, over, Past, PastFrom}
+use Rattle.reading.specs.Scan.{past, record_scan, on_header, scan_of, other, Leads, here, over, Past, PastFrom}
 
 -- ---- a record with cells has its row and first column
 module _ (s : List ℕ) (at id z e n : ℕ) {r : Header} (is : r ≡ header_at s at) (h : r ≡ Record id z e) (count : n ≡ count_of (shape_of id) s at z) (some : n ≡ 0 → ⊥) where
@@ -37,102 +36,49 @@ module _ (s : List ℕ) (at id z e n : ℕ) {r : Header} (is : r ≡ header_at s
   pub row_room : at + 4 + 2 ≤ length s
   row_room = let x = first_room in omega arith
 
-  pub row_fits : length s < 2 ^ 64 → at + 4 < 2 ^ 64
-  row_fits l = let x = row_room in omega arith
-
-  pub first_fits : length s < 2 ^ 64 → at + 6 < 2 ^ 64
-  first_fits l = let x = first_room in omega arith
-
--- ---- the answers
-past_is : (o : Outside) (y : Item Place Cell) → outside_item o ≡ y → o ≡ past y
-unfolding place_at
-past_is (outside.Next e l) y i = ap past i
-past_is outside.End y i = ap past i
-
-module _ (s : List ℕ) (at level : ℕ) {r : Header} (is : r ≡ header_at s at) where
-  by_header : (x : Header) (y : Scanned) → r ≡ x → y ≡ on_header s at level x → y ≡ scan_of s at level
-  unfolding scan_of
-  by_header x y h i = i ∙ ap (on_header s at level) (sym h ∙ is)
-
-  pub scan_cut : r ≡ Cut → scanned.None outside.End ≡ scan_of s at level
-  scan_cut h = by_header Cut _ h refl
-
-  pub scan_end : r ≡ End → scanned.None outside.End ≡ scan_of s at level
-  scan_end h = by_header End _ h refl
-
-  module _ (id z e : ℕ) (h : r ≡ Record id z e) where
-    module _ (o : Outside) (q : outside_item o ≡ other_item (place_at 0 level) id e) where
-      passed : scanned.None o ≡ without level id e
-      passed = ap scanned.None (past_is o _ q)
-
-      pub scan_inside : (level ≡ 0 → ⊥) → scanned.None o ≡ scan_of s at level
-      unfolding record_scan
-      scan_inside l = by_header (Record id z e) _ h (pick_ne _ _ _ level 0 l passed)
-
-      pub scan_none : (n : ℕ) → level ≡ 0 → n ≡ count_of (shape_of id) s at z → n ≡ 0 → scanned.None o ≡ scan_of s at level
-      unfolding record_scan
-      scan_none n l c i = by_header (Record id z e) _ h (pick_eq _ _ _ level 0 l (pick_eq _ _ _ (count_of (shape_of id) s at z) 0 (sym c ∙ i) passed))
-
-    pub scan_cells : (n row first : ℕ) → level ≡ 0 → n ≡ count_of (shape_of id) s at z → (n ≡ 0 → ⊥) → row ≡ row_at s at → first ≡ first_at s at → scanned.Cells id row first n e ≡ scan_of s at level
-    unfolding record_scan
-    scan_cells n row first l c i f g =
-        by_header (Record id z e) _ h
-        (pick_eq _ _ _ level 0 l (pick_ne _ _ _ (count_of (shape_of id) s at z) 0 (λ j. i (c ∙ j)) (λ j. scanned.Cells id (f j) (g j) (c j) e)))
-
-pub ruleset scan_laws = (scan_cut, scan_end, scan_inside, scan_none, scan_cells)
-
 -- ---- what a scanned record says of the listing from its place on
 -- the cells of the record, which come first in the list
-pub record Row (s : List ℕ) (at id row first n next : ℕ) : Type 0 where
+pub record Row (s : List ℕ) (at : ℕ) (x : RecordCells) : Type 0 where
   pub size : ℕ
-  pub header : header_at s at ≡ Record id size next
-  pub count : n ≡ count_of (shape_of id) s at size
-  pub some : 0 < n
-  pub few : n ≤ 256
-  pub row_is : row ≡ row_at s at
-  pub first_is : first ≡ first_at s at
-  pub list : listed_from s (place_at at 0) ≡ cells_of s (shape_of id) at size ++ listed_from s (place_at next 0)
-  pub ahead : at < next
-  pub within : next ≤ length s
+  pub header : header_at s at ≡ Record x.id size x.next
+  pub count : x.count ≡ count_of (shape_of x.id) s at size
+  pub some : 0 < x.count
+  pub few : x.count ≤ 256
+  pub row_is : x.row ≡ row_at s at
+  pub first_is : x.first ≡ first_at s at
+  pub list : listed_from s (place_at at 0) ≡ cells_of s (shape_of x.id) at size ++ listed_from s (place_at x.next 0)
+  pub ahead : at < x.next
+  pub within : x.next ≤ length s
 
-abbrev pub Passed : List ℕ → ℕ → ℕ → Outside → Type 0
-Passed s at level (outside.Next e l) = (listed_from s (place_at at level) ≡ listed_from s (place_at e l)) × (at < e) × (e ≤ length s)
-Passed s at level outside.End = listed_from s (place_at at level) ≡ []
-
-abbrev pub Scan : List ℕ → ℕ → ℕ → Scanned → Type 0
-Scan s at level (scanned.Cells id row first n next) = (level ≡ 0) × Row s at id row first n next
-Scan s at level (scanned.None o) = Passed s at level o
+abbrev pub Scan : List ℕ → ℕ → ℕ → Option Scanned → Type 0
+Scan s at level (Some (scanned.Cells x)) = (level ≡ 0) × Row s at x
+Scan s at level (Some (scanned.Past v)) = (listed_from s (place_at at level) ≡ listed_from s (place_at v.at v.level)) × (at < v.at) × (v.at ≤ length s)
+Scan s at level None = listed_from s (place_at at level) ≡ []
 
 module _ (s : List ℕ) (at level : ℕ) where
-  by_item : (o : Outside) → outside_item o ≡ cell_item s (place_at at level) → ((e l : ℕ) → o ≡ outside.Next e l → (at < e) × (e ≤ length s)) → Passed s at level o
-  by_item (outside.Next e l) i f = let g = f e l refl in (listed_step s (place_at at level) ∙ ap (λ (x : Item Place Cell). onto x (λ p. listed_from s p)) (sym i), g.0, g.1)
-  by_item outside.End i f = listed_step s (place_at at level) ∙ ap (λ (x : Item Place Cell). onto x (λ p. listed_from s p)) (sym i)
+  -- where the listing goes past a record that ends at e
+  abbrev Onward : ℕ → Item Place Cell → Type 0
+  Onward e (gives c t) = ⊥
+  Onward e (skips t) = (t.at ≡ e) × (place_at t.at t.level ≡ t)
+  Onward e ends = Unit {0}
 
-  no_record : (h : Header) → ends ≡ item_on s (place_at at level) h → header_at s at ≡ h → Passed s at level outside.End
+  by_item : (e : ℕ) → at < e → e ≤ length s → (y : Item Place Cell) → cell_item s (place_at at level) ≡ y → Onward e y → Scan s at level (past y)
+  by_item e a w (gives c t) i o = absurd o
+  by_item e a w (skips t) i o = (listed_step s (place_at at level) ∙ ap (λ (x : Item Place Cell). onto x (λ p. listed_from s p)) i ∙ ap (listed_from s) (sym o.1), omega (arith, o.0), omega (arith, o.0))
+  by_item e a w ends i o = listed_step s (place_at at level) ∙ ap (λ (x : Item Place Cell). onto x (λ p. listed_from s p)) i
+
+  no_record : (h : Header) → item_on s (place_at at level) h ≡ ends → header_at s at ≡ h → Scan s at level None
   unfolding cell_item place_at
-  no_record h e i = by_item outside.End (e ∙ ap (item_on s (place_at at level)) (sym i)) (λ e l i. absurd (let z : ◌≡◌ {A = ℕ} 0 1 = cc in omega arith))
+  no_record h e i = listed_step s (place_at at level) ∙ ap (λ (x : Item Place Cell). onto x (λ p. listed_from s p)) (ap (item_on s (place_at at level)) i ∙ e)
 
   module _ (id z e : ℕ) (h : header_at s at ≡ Record id z e) where
-    abbrev beside : Item Place Cell
-    beside = other_item (place_at 0 level) id e
-
-    -- a record without cells leads on to its end, or ends the list
-    record Onward (y : Item Place Cell) : Type 0 where
-      same : outside_item (past y) ≡ y
-      end : (f l : ℕ) → past y ≡ outside.Next f l → f ≡ e
-
-    onward : Onward beside
+    onward : Onward e (other_item (place_at 0 level) id e)
     unfolding other_item place_at
-    onward =
-        let on : (l : ℕ) → Onward (skips (place_at e l)) = λ l. record { same = refl; end = λ f m i. cc } in
-        let over : Onward ends = record { same = refl; end = λ f m i. absurd (let z : ◌≡◌ {A = ℕ} 0 1 = cc in omega arith) } in
-        pick_any Onward _ (pick_any Onward _ (on _) over) (pick_any Onward _ (pick_any Onward _ over (on _)) (on _))
+    onward = pick_any (Onward e) _ (pick_any (Onward e) _ (refl, refl) tt) (pick_any (Onward e) _ (pick_any (Onward e) _ tt (refl, refl)) (refl, refl))
 
-    by_other : record_item s (place_at at level) id z e ≡ other_item (place_at at level) id e → Passed s at level (past beside)
+    by_other : record_item s (place_at at level) id z e ≡ other_item (place_at at level) id e → Scan s at level (past (other_item (place_at 0 level) id e))
     unfolding cell_item place_at other_item
-    by_other g =
-        let w = whole s at id z e h in
-        by_item (past beside) (onward.same ∙ sym g ∙ ap (item_on s (place_at at level)) (sym h)) (λ f l i. let k = onward.end f l i in (omega arith, omega arith))
+    by_other g = let w = whole s at id z e h in by_item e (omega arith) (omega arith) (other_item (place_at 0 level) id e) (ap (item_on s (place_at at level)) h ∙ g) onward
 
     record_says : Scan s at level (record_scan s at level id z e)
     unfolding record_scan record_item place_at
@@ -231,11 +177,12 @@ pub ruleset past_laws = (past_start, past_nearer, past_on)
 pub from_start : (s : List ℕ) (v : Place) → PastFrom s v v
 from_start s v = record { leads = here; near = omega arith }
 
-pub from_past : (s : List ℕ) (v : Place) → v.part ≡ 0 → (r : ℕ) → Past s v.level v.at r → PastFrom s v (record { at = r; part = 0; level = v.level })
+pub from_past : (s : List ℕ) (v : Place) → v.part ≡ 0 → (r : ℕ) → Past s v.level v.at r → PastFrom s v (record { at = r; part = v.part; level = v.level })
 unfolding place_at remaining
 from_past s v e r p =
-    let same : place_at v.at v.level ≡ v = (λ i. record { at = v.at; part = sym e i; level = v.level }) in
+    let at_v : place_at v.at v.level ≡ v = (λ i. record { at = v.at; part = sym e i; level = v.level }) in
+    let at_r : place_at r v.level ≡ record { at = r; part = v.part; level = v.level } = (λ i. record { at = r; part = sym e i; level = v.level }) in
     record {
-      leads = subst (λ (w : Place). Leads s w (place_at r v.level)) same p.leads;
+      leads = subst (Leads s v) at_r (subst (λ (w : Place). Leads s w (place_at r v.level)) at_v p.leads);
       near = let n = p.near in omega arith;
     }

@@ -9,9 +9,8 @@ use borrow.Author.Tests.{eqb-true, eqb-false}
 use Rattle.steps.proofs.Choice.{never, pick_any, pick_by, pick_eq, pick_ne}
 use Rattle.byte_numbers.specs.Bytes.{num_at, u64_at}
 use Rattle.number.specs.Float64.{is_nan_bits}
-use Rattle.number.specs.declared.Rk.{Rk}
-use Rattle.number.specs.declared.Rk.TheVariants.{Number as RkNumber, Nothing as RkNothing}
 use Rattle.number.specs.Rk.{rk_of}
+use Rattle.std.specs.Prelude.{Option, None, Some, Float}
 use Rattle.value.specs.declared.CellValue.{CellValue}
 use Rattle.value.specs.Value.{float_value, rk_value, truth_error, result_of, value_of}
 use Rattle.cell.specs.declared.Shape.{Shape}
@@ -29,9 +28,9 @@ float_silent : (n : ℕ) → Silent (float_value n)
 unfolding float_value
 float_silent n = pick_any Silent (is_nan_bits n) refl refl
 
-rk_silent : (x : Rk) → Silent (rk_value x)
-rk_silent (RkNumber x) = refl
-rk_silent RkNothing = refl
+rk_silent : (x : Option Float) → Silent (rk_value x)
+rk_silent (Some x) = refl
+rk_silent None = refl
 
 pair_silent : (n : ℕ) → Silent (truth_error n)
 unfolding truth_error

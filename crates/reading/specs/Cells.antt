@@ -1,5 +1,5 @@
 -- The cells of a sheet: in stream order, a multiple record from left to right. Only what stands directly in the worksheet counts.
-use Rattle.std.specs.Prelude.{ℕ, ◌+◌, ◌-◌, ◌*◌, List, length, ltb, eqb}
+use Rattle.std.specs.Prelude.{ℕ, ◌+◌, ◌-◌, ◌*◌, List, Option, None, Some, length, ltb, eqb}
 use Rattle.steps.specs.Choice.{pick}
 use Rattle.steps.specs.Items.{Item, gives, skips, ends, collect}
 use Rattle.record.specs.declared.Header.{Header}
@@ -7,7 +7,6 @@ use Rattle.record.specs.declared.Header.TheVariants.{Record, Cut, End}
 use Rattle.record.specs.Record.{header_at}
 use Rattle.cell.specs.declared.Cell.{Cell}
 use Rattle.cell.specs.declared.Found.{Found}
-use Rattle.cell.specs.declared.Found.TheVariants.{There, Absent}
 use Rattle.cell.specs.Cells.{shape_of, found_of}
 use Rattle.reading.specs.declared.Place.{Place}
 
@@ -28,9 +27,9 @@ other_item v t e =
     (skips (place_at e v.level)))
 
 -- the cell, and then the next of its record or the next record
-abbrev pub on_found : Place → ℕ → ℕ → Found → Item Place Cell
-on_found v t e (There c left) = gives c (pick (eqb left 0) (place_at e v.level) (next_part v))
-on_found v t e Absent = other_item v t e
+abbrev pub on_found : Place → ℕ → ℕ → Option Found → Item Place Cell
+on_found v t e (Some f) = gives f.cell (pick (eqb f.left 0) (place_at e v.level) (next_part v))
+on_found v t e None = other_item v t e
 
 unfoldable pub record_item : List ℕ → Place → ℕ → ℕ → ℕ → Item Place Cell
 record_item s v t z e = pick (eqb v.level 0) (on_found v t e (found_of s (shape_of t) v.at z v.part)) (other_item v t e)

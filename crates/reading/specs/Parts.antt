@@ -1,11 +1,9 @@
 -- What the contract of the code speaks of.
+use Rattle.std.specs.Prelude.{Option, None, Some}
 use Rattle.steps.specs.Items.{Item, skips, ends}
 use Rattle.cell.specs.declared.Cell.{Cell}
 use Rattle.reading.specs.declared.Place.{Place}
-use Rattle.reading.specs.declared.Outside.{Outside}
-use Rattle.reading.specs.declared.Outside.TheVariants as outside
-use Rattle.reading.specs.Cells.{place_at}
 
-abbrev pub outside_item : Outside → Item Place Cell
-outside_item (outside.Next e l) = skips (place_at e l)
-outside_item outside.End = ends
+abbrev pub outside_item : Option Place → Item Place Cell
+outside_item (Some v) = skips v
+outside_item None = ends

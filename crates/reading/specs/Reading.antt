@@ -1,8 +1,9 @@
 -- The reading of a stream: in order, each sheet's name, width, type, row count and listed cells (row, column, value, a formula's tokens and the bytes after them,
 -- format index, the offset of the value field or, for a blank, of the format, and the units of its text result), and each shared string's units.
-use Rattle.std.specs.Prelude.{ℕ, ◌+◌, ◌-◌, max, List, [], ◌∷◌, map, Bool, false, length, take, drop, ltb, eqb}
+use Rattle.std.specs.Prelude.{ℕ, ◌+◌, ◌-◌, max, List, [], ◌∷◌, map, Bool, false, Result, Ok, Err, length, take, drop, ltb, eqb}
 use Rattle.steps.specs.Choice.{pick}
 use Rattle.byte_numbers.specs.Bytes.{byte_at, u16_at}
+use Rattle.refusal.specs.declared.Refusal.{Refusal}
 use Rattle.record.specs.declared.Header.{Header}
 use Rattle.record.specs.declared.Header.TheVariants.{Record, Cut, End}
 use Rattle.record.specs.Record.{header_at}
@@ -14,9 +15,10 @@ use Rattle.text_result.specs.TextResult.{is_text, text_of}
 use Rattle.cell.specs.declared.Cell.{Cell}
 use Rattle.cell.specs.declared.Tokens.{Tokens}
 use Rattle.cell.specs.Cells.{tokens_of}
-use Rattle.sheet_agreement.specs.Agreement.{Sheet}
-use Rattle.globals.specs.declared.Ended.{Ended}
-use Rattle.globals.specs.declared.Ended.TheVariants as globals
+use Rattle.sheet_agreement.specs.declared.SheetKind.{SheetKind}
+use Rattle.sheet_agreement.specs.declared.SheetKind.TheVariants.{Worksheet}
+use Rattle.sheet_agreement.specs.Agreement.{same_kind, Sheet}
+use Rattle.globals.specs.declared.Globals.{Globals}
 use Rattle.globals.specs.Globals.{globals_of}
 use Rattle.globals.specs.Sheets.{sheets_of}
 use Rattle.reading.specs.declared.Place.{Place}
@@ -40,8 +42,8 @@ abbrev pub type_at : List ℕ → ℕ → ℕ
 type_at s h = byte_at s (h + 9)
 
 -- a worksheet's cells start after its BOF; chart and macro sheets list no cells
-unfoldable pub start_by : ℕ → ℕ → ℕ → Place
-start_by len position kind = pick (eqb kind 1) (place_at (position + 20) 0) (place_at len 0)
+unfoldable pub start_by : ℕ → ℕ → SheetKind → Place
+start_by len position kind = pick (same_kind kind Worksheet) (place_at (position + 20) 0) (place_at len 0)
 
 abbrev pub start_of : List ℕ → Sheet → Place
 start_of s x = start_by (length s) x.position x.kind
@@ -58,9 +60,9 @@ rows_of (c ∷ l) = max (c.row + 1) (rows_of l)
 unfoldable pub strings_at : List ℕ → ℕ → List (List ℕ)
 strings_at s p = pick (eqb p 0) [] (strings_of s p (p + 4 + u16_at s (p + 2)))
 
-abbrev pub on_globals : List ℕ → Ended → List (List ℕ)
-on_globals s (globals.At g) = strings_at s g.table
-on_globals s (globals.Refused n o) = []
+abbrev pub on_globals : List ℕ → Result Globals Refusal → List (List ℕ)
+on_globals s (Ok g) = strings_at s g.table
+on_globals s (Err r) = []
 
 -- ---- the text result of a formula
 abbrev pub says_text : CellValue → Bool

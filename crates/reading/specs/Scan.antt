@@ -1,6 +1,6 @@
 -- The record at a place of a sheet's listing, for those who need no values: its cells, which stand in one row from the first column on; or, where it has none,
 -- how the listing goes on past it.
-use Rattle.std.specs.Prelude.{ℕ, ◌-◌, ◌≤◌, ◌<◌, ◌≡◌, Bool, true, false, List, eqb, length}
+use Rattle.std.specs.Prelude.{ℕ, ◌-◌, ◌≤◌, ◌<◌, ◌≡◌, Bool, true, false, List, Option, None, Some, eqb, length}
 use Rattle.steps.specs.Choice.{pick}
 use Rattle.steps.specs.Items.{Item, gives, skips, ends}
 use Rattle.record.specs.declared.Header.{Header}
@@ -10,33 +10,31 @@ use Rattle.cell.specs.declared.Cell.{Cell}
 use Rattle.cell.specs.Cells.{shape_of, is_cell, row_at, first_at, count_of}
 use Rattle.reading.specs.declared.Place.{Place}
 use Rattle.reading.specs.Cells.{place_at, other_item, cell_item, remaining}
-use Rattle.reading.specs.declared.Outside.{Outside}
-use Rattle.reading.specs.declared.Outside.TheVariants as outside
 use Rattle.reading.specs.declared.Scanned.{Scanned}
 use Rattle.reading.specs.declared.Scanned.TheVariants as scanned
 
-abbrev pub past : Item Place Cell → Outside
-past (gives c t) = outside.End
-past (skips t) = outside.Next t.at t.level
-past ends = outside.End
+abbrev pub past : Item Place Cell → Option Scanned
+past (gives c t) = None
+past (skips t) = Some (scanned.Past t)
+past ends = None
 
-abbrev pub without : ℕ → ℕ → ℕ → Scanned
-without level t e = scanned.None (past (other_item (place_at 0 level) t e))
+abbrev pub without : ℕ → ℕ → ℕ → Option Scanned
+without level t e = past (other_item (place_at 0 level) t e)
 
 -- only what stands directly in the sheet counts
-unfoldable pub record_scan : List ℕ → ℕ → ℕ → ℕ → ℕ → ℕ → Scanned
+unfoldable pub record_scan : List ℕ → ℕ → ℕ → ℕ → ℕ → ℕ → Option Scanned
 record_scan s at level t z e =
     pick (eqb level 0)
     (pick (eqb (count_of (shape_of t) s at z) 0) (without level t e)
-    (scanned.Cells t (row_at s at) (first_at s at) (count_of (shape_of t) s at z) e))
+    (Some (scanned.Cells (record { id = t; row = row_at s at; first = first_at s at; count = count_of (shape_of t) s at z; next = e }))))
     (without level t e)
 
-abbrev pub on_header : List ℕ → ℕ → ℕ → Header → Scanned
+abbrev pub on_header : List ℕ → ℕ → ℕ → Header → Option Scanned
 on_header s at level (Record t z e) = record_scan s at level t z e
-on_header s at level Cut = scanned.None outside.End
-on_header s at level End = scanned.None outside.End
+on_header s at level Cut = None
+on_header s at level End = None
 
-unfoldable pub scan_of : List ℕ → ℕ → ℕ → Scanned
+unfoldable pub scan_of : List ℕ → ℕ → ℕ → Option Scanned
 scan_of s at level = on_header s at level (header_at s at)
 
 -- ---- records without cells

@@ -17,103 +17,85 @@ pub struct Place {
     pub level: u8,
 }
 
-// A record that holds no cell of the sheet: on from its end, inside so many substreams, or the end of the list.
-#[derive(Clone, Copy)]
-pub enum Outside {
-    Next { at: usize, level: u8 },
-    End,
-}
-
-// Past a record that holds no cell of the sheet, inside so many substreams.
-pub fn past_record(id: u16, level: u8, end: usize) -> Outside
+// Past a record that holds no cell of the sheet, inside so many substreams: none at the end of the list.
+#[tactic(auto, unfolding(crate::specs::Cells::other_item, crate::specs::Cells::place_at, steps::specs::Choice::pick))]
+pub fn past_record(id: u16, level: u8, end: usize) -> Option<Place>
     ensures { outside_item result ≡ other_item (place_at 0 level) id end }
 {
-    if id == 0x0809 {
-        if level < 3 {
-            return Outside::Next {
-                at: end,
-                level: level + 1,
-            };
-        }
-        return Outside::End;
-    }
-    if id == 0x000A {
-        if level == 0 {
-            return Outside::End;
-        }
-        return Outside::Next {
-            at: end,
-            level: level - 1,
-        };
-    }
-    Outside::Next { at: end, level }
+    let level = match id {
+        0x0809 if level < 3 => level + 1,
+        0x000A if level != 0 => level - 1,
+        0x0809 | 0x000A => return None,
+        _ => level,
+    };
+    Some(Place {
+        at: end,
+        part: 0,
+        level,
+    })
 }
 
-// The record at a place: its cells, which stand in one row from the first column on; or none.
+// The cells of a record, which stand in one row from the first column on; and where the next record stands.
+#[derive(Clone, Copy)]
+pub struct RecordCells {
+    pub id: u16,
+    pub row: u16,
+    pub first: u16,
+    pub count: u16,
+    pub next: usize,
+}
+
+// The record at a place: its cells; or, where it holds none of the sheet, the place after it.
 #[derive(Clone, Copy)]
 pub enum Scanned {
-    Cells {
-        id: u16,
-        row: u16,
-        first: u16,
-        count: u16,
-        next: usize,
-    },
-    None(Outside),
+    Cells(RecordCells),
+    Past(Place),
 }
 
-// The record at a place of a sheet's listing.
-pub fn scan(s: &[u8], at: usize, level: u8) -> Scanned
+// The record at a place of a sheet's listing: none at its end.
+#[tactic(auto, using(record::proofs::Laws::body_within, crate::proofs::Scanning::first_room), unfolding(crate::specs::Scan::scan_of, crate::specs::Scan::record_scan, cell::specs::Cells::row_at, cell::specs::Cells::first_at, steps::specs::Choice::pick))]
+pub fn scan(s: &[u8], at: usize, level: u8) -> Option<Scanned>
     ensures { result ≡ scan_of s.now at level }
 {
-    match record::header_at(s, at) {
-        Header::Record {
-            kind: id,
-            size,
-            end,
-        } => {
-            if level != 0 {
-                return Scanned::None(past_record(id, level, end));
-            }
-            let count = cell::cell_count(s, at, id, size);
-            if count == 0 {
-                return Scanned::None(past_record(id, level, end));
-            }
-            Scanned::Cells {
-                id,
-                row: byte_numbers::u16_at(s, at + 4),
-                first: byte_numbers::u16_at(s, at + 6),
-                count,
-                next: end,
-            }
-        }
-        Header::Cut => Scanned::None(Outside::End),
-        Header::End => Scanned::None(Outside::End),
+    let Header::Record {
+        kind: id,
+        size,
+        end,
+    } = record::header_at(s, at)
+    else {
+        return None;
+    };
+    if level != 0 {
+        return Some(Scanned::Past(past_record(id, level, end)?));
     }
+    let count = cell::cell_count(s, at, id, size);
+    if count == 0 {
+        return Some(Scanned::Past(past_record(id, level, end)?));
+    }
+    Some(Scanned::Cells(RecordCells {
+        id,
+        row: byte_numbers::u16_at(s, at + 4),
+        first: byte_numbers::u16_at(s, at + 6),
+        count,
+        next: end,
+    }))
 }
 
 // ---- past records without cells
 
 // A record that has no cells and neither opens nor ends a substream.
+#[tactic(auto, unfolding(crate::specs::Scan::other, cell::specs::Cells::shape_of, steps::specs::Choice::pick))]
 fn is_other(id: u16) -> bool
     ensures { result ≡ other id }
 {
-    match id {
-        0x0201 => false,
-        0x0203 => false,
-        0x027E => false,
-        0x00FD => false,
-        0x0205 => false,
-        0x00BD => false,
-        0x00BE => false,
-        0x0006 => false,
-        0x0809 => false,
-        0x000A => false,
-        _ => true,
-    }
+    !matches!(
+        id,
+        0x0201 | 0x0203 | 0x027E | 0x00FD | 0x0205 | 0x00BD | 0x00BE | 0x0006 | 0x0809 | 0x000A
+    )
 }
 
 // Past such records, where they stand directly in the sheet: a short loop of its own, since a stream may have millions of them.
+#[tactic(auto, using(crate::proofs::Scanning::past_laws))]
 pub fn past_others(s: &[u8], from: usize, level: u8) -> usize
     ensures { Past s.now level from result }
 {
@@ -121,36 +103,26 @@ pub fn past_others(s: &[u8], from: usize, level: u8) -> usize
         return from;
     }
     let mut at = from;
-    loop {
-        match record::header_at(s, at) {
-            Header::Record { kind, size: _, end } => {
-                if is_other(kind) {
-                    at = end;
-                } else {
-                    return at;
-                }
-            }
-            Header::Cut => {
-                return at;
-            }
-            Header::End => {
-                return at;
-            }
+    // The record itself says where the next one starts: there is no index to count.
+    while let Header::Record { kind, end, .. } = record::header_at(s, at) {
+        if !is_other(kind) {
+            return at;
         }
+        at = end;
     }
+    at
 }
 
 // The same from a place on.
+#[tactic(auto, using(crate::proofs::Scanning::from_start))]
 pub fn past_from(s: &[u8], from: Place) -> Place
     ensures { PastFrom s.now from result }
 {
     if from.part != 0 {
         return from;
     }
-    let level = from.level;
     Place {
-        at: past_others(s, from.at, level),
-        part: 0,
-        level,
+        at: past_others(s, from.at, from.level),
+        ..from
     }
 }

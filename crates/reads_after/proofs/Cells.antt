@@ -19,7 +19,9 @@ use Rattle.segments.specs.Segments.{Got, got, refused, list_of}
 use Rattle.segments.specs.Parts.{Passes}
 use Rattle.text_result.specs.TextResult.{has_text, text_of}
 use Rattle.text_result.proofs.Local.{text_same}
-use Rattle.sheet_agreement.specs.Agreement.{Sheet}
+use Rattle.sheet_agreement.specs.declared.SheetKind.TheVariants.{Worksheet}
+use Rattle.sheet_agreement.specs.Agreement.{same_kind, Sheet}
+use Rattle.sheet_agreement.proofs.Laws.{same_kind-true}
 use Rattle.globals.specs.declared.Globals.{Globals}
 use Rattle.reading.specs.declared.Place.{Place}
 use Rattle.reading.specs.Cells.{place_at, cell_item, remaining, listed_from}
@@ -72,8 +74,8 @@ module _ {s s' : List ℕ} {a t z e k : ℕ} {v : CellValue} (c : Corrected s s'
     unfolding start_by
     sheet_written =
         ap (λ (n : ℕ). listed_from s' (start_by n x.position x.kind)) (sym c.size)
-        ∙ pick_by (λ (w : Place). listed_from s' w ≡ map write (listed_from s w)) (eqb x.kind 1)
-        (λ q. listing_written (place_at (x.position + 20) 0) (sheet_start s g x i (eqb-true x.kind 1 q)))
+        ∙ pick_by (λ (w : Place). listed_from s' w ≡ map write (listed_from s w)) (same_kind x.kind Worksheet)
+        (λ q. listing_written (place_at (x.position + 20) 0) (sheet_start s g x i (same_kind-true x.kind Worksheet q)))
         (λ _. let l = c.size in listed_none s' (length s) (omega arith) ∙ ap (map write) (sym (listed_none s (length s) (omega arith))))
 
     pub sheet_rows : rows_of (listed_of s' x) ≡ rows_of (listed_of s x)

@@ -13,7 +13,7 @@ use Rattle.value.specs.declared.Field.{Field}
 use Rattle.value.specs.Value.{width_of}
 use Rattle.cell.specs.declared.Cell.{Cell}
 use Rattle.cell.specs.declared.Found.{Found}
-use Rattle.cell.specs.declared.Found.TheVariants.{There, Absent}
+use Rattle.std.specs.Prelude.{Option, None, Some}
 use Rattle.cell.specs.Cells.{shape_of, field_of, found_of}
 use Rattle.record_after.specs.Claims.{place_of}
 use Rattle.record_after.proofs.Fields.{field_in}
@@ -74,7 +74,7 @@ module _ (s : List ℕ) (v : Place) where
     unfolding other_item place_at
     on_other = pick_any On _ (pick_any On _ (λ d i. past d i.listed) tt) (pick_any On _ (pick_any On _ tt (λ d i. past d i.listed)) (λ d i. past d i.listed))
 
-    module _ (c : Cell) (left : ℕ) (found : found_of s (shape_of t) v.at z v.part ≡ There c left) where
+    module _ (c : Cell) (left : ℕ) (found : found_of s (shape_of t) v.at z v.part ≡ Some (record { cell = c; left = left })) where
       abbrev this : Listed s v.at c
       this = record { at = v.at; type = t; size = z; end = e; part = v.part; left = left; reached = here; header = h; found = found }
 
@@ -94,15 +94,15 @@ module _ (s : List ℕ) (v : Place) where
       unfolding place_at
       next_record d i = (past d i.listed, apart d i.listed (reach_ahead s i.listed.reached))
 
-      on_there : On (on_found v t e (There c left))
+      on_there : On (on_found v t e (Some (record { cell = c; left = left })))
       on_there = (
         record { listed = this; part = λ _. omega arith },
         pick_any (λ (w : Place). (d : Cell) → From s w d → From s v d × Before c d) _ next_record next_part_lem,
       )
 
-    on_found_lem : (x : Found) → found_of s (shape_of t) v.at z v.part ≡ x → On (on_found v t e x)
-    on_found_lem (There c left) i = on_there c left i
-    on_found_lem Absent i = on_other
+    on_found_lem : (x : Option Found) → found_of s (shape_of t) v.at z v.part ≡ x → On (on_found v t e x)
+    on_found_lem (Some f) i = on_there f.cell f.left i
+    on_found_lem None i = on_other
 
     on_record : On (record_item s v t z e)
     unfolding record_item

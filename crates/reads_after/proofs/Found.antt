@@ -20,12 +20,14 @@ use Rattle.value.specs.Value.{width_of, value_of}
 use Rattle.cell.specs.declared.Cell.{Cell}
 use Rattle.cell.specs.Cells.{shape_of, field_of, field_at, cell_of}
 use Rattle.new_value.specs.declared.NewValue.{NewValue}
-use Rattle.new_value.specs.declared.Plan.TheVariants as plan
 use Rattle.new_value.specs.Change.{Held, plan_of, new_of}
 use Rattle.record_after.proofs.Planned.{planned}
-use Rattle.substream.specs.declared.Ended.TheVariants.{At}
+use Rattle.std.specs.Prelude.{Ok}
 use Rattle.substream.specs.Substream.{past_parent, substream_in}
-use Rattle.sheet_agreement.specs.Agreement.{Sheet}
+use Rattle.sheet_agreement.specs.declared.SheetKind.{SheetKind}
+use Rattle.sheet_agreement.specs.declared.SheetKind.TheVariants.{Worksheet}
+use Rattle.sheet_agreement.specs.Agreement.{same_kind, Sheet}
+use Rattle.sheet_agreement.proofs.Laws.{same_kind-true}
 use Rattle.globals.specs.declared.Globals.{Globals}
 use Rattle.top_level.specs.TopLevel.{bof_kind}
 use Rattle.reading.specs.declared.Place.{Place}
@@ -82,18 +84,18 @@ has_at row column (c ∷ l) = go (addressed row column c) refl (has_at row colum
     go false q h = h
 
 -- ---- the cells of a sheet stand in its substream
-pub worksheet : (k : ℕ) → bof_kind k ≡ 1 → k ≡ 0x0010
+pub worksheet : (k : ℕ) → bof_kind k ≡ Worksheet → k ≡ 0x0010
 unfolding bof_kind
 worksheet k h =
-    pick_by (λ (n : ℕ). n ≡ 1 → k ≡ 0x0010) (eqb k 0x0010) (λ q _. eqb-true k 0x0010 q)
-    (λ _. pick_any (λ (n : ℕ). n ≡ 1 → k ≡ 0x0010) _ (λ i. absurd (omega arith)) (pick_any (λ (n : ℕ). n ≡ 1 → k ≡ 0x0010) _ (λ i. absurd (omega arith)) (λ i. absurd (omega arith)))) h
+    pick_by (λ (n : SheetKind). n ≡ Worksheet → k ≡ 0x0010) (eqb k 0x0010) (λ q _. eqb-true k 0x0010 q)
+    (λ _. pick_any (λ (n : SheetKind). n ≡ Worksheet → k ≡ 0x0010) _ (λ i. never (cc)) (pick_any (λ (n : SheetKind). n ≡ Worksheet → k ≡ 0x0010) _ (λ i. never (cc)) (λ i. never (cc)))) h
 
 -- its list begins after its BOF
-pub sheet_start : (s : List ℕ) (g : Globals) (x : Sheet) (i : SheetStands s g x) → x.kind ≡ 1 → Stands s g.unique x.position i.end (place_at (x.position + 20) 0)
+pub sheet_start : (s : List ℕ) (g : Globals) (x : Sheet) (i : SheetStands s g x) → x.kind ≡ Worksheet → Stands s g.unique x.position i.end (place_at (x.position + 20) 0)
 unfolding place_at
 sheet_start s g x i q =
     let k : i.whole.kind ≡ 0x0010 = worksheet i.whole.kind (i.number ∙ q) in
-    let e : substream_in 4 s g.unique 0x0010 x.position ≡ At i.end = rw k at i.whole.ends in (
+    let e : substream_in 4 s g.unique 0x0010 x.position ≡ Ok i.end = rw k at i.whole.ends in (
       reach_one s (opening s x.position i.whole.kind i.whole.opens).header,
       sheet (past_parent (x.position + 20)) refl refl (entered 3 s g.unique 0x0010 x.position i.end e),
     )
@@ -106,8 +108,8 @@ listed_none s n l = listed_step s (place_at n 0) ∙ ap (λ (x : Header). onto (
 pub sheet_cells : (s : List ℕ) (g : Globals) (x : Sheet) (i : SheetStands s g x) → Every (ListedTo s x.position i.end) (listed_of s x)
 unfolding start_by
 sheet_cells s g x i =
-    pick_by (λ (v : Place). Every (ListedTo s x.position i.end) (listed_from s v)) (eqb x.kind 1)
-    (λ q. listed_inside s g.unique x.position i.end (place_at (x.position + 20) 0) (sheet_start s g x i (eqb-true x.kind 1 q)))
+    pick_by (λ (v : Place). Every (ListedTo s x.position i.end) (listed_from s v)) (same_kind x.kind Worksheet)
+    (λ q. listed_inside s g.unique x.position i.end (place_at (x.position + 20) 0) (sheet_start s g x i (same_kind-true x.kind Worksheet q)))
     (λ _. subst (Every (ListedTo s x.position i.end)) (sym (listed_none s (length s) (omega arith))) tt)
 
 -- ---- the stream after it
@@ -138,7 +140,7 @@ module _ {s : List ℕ} {lent n row column : ℕ} {v : NewValue} {f : Field} {p 
   pub cell_of_lem : r.cell ≡ cell_of s (field_of (shape_of record_of.type)) record_of.at record_of.part
   cell_of_lem = (listed_here record_of).cell
 
-  plan_is : plan_of (field_of (shape_of record_of.type)) v r.globals.unique ≡ plan.Put b
+  plan_is : plan_of (field_of (shape_of record_of.type)) v r.globals.unique ≡ Ok b
   plan_is = ap (λ (x : Field). plan_of x v r.globals.unique) (sym (r.kind ∙ kind_is)) ∙ r.plan
 
   abbrev after : List ℕ

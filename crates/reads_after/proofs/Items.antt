@@ -19,7 +19,7 @@ use Rattle.value.specs.declared.CellValue.{CellValue}
 use Rattle.cell.specs.declared.Shape.{Shape}
 use Rattle.cell.specs.declared.Cell.{Cell}
 use Rattle.cell.specs.declared.Found.{Found}
-use Rattle.cell.specs.declared.Found.TheVariants.{There, Absent}
+use Rattle.std.specs.Prelude.{Option, None, Some}
 use Rattle.cell.specs.Cells.{shape_of, field_of, part_of, row_at, first_at, count_of, cell_from, cell_of, found_of, tokens_of}
 use Rattle.record_after.specs.Claims.{revalued}
 use Rattle.record_after.proofs.Fields.{field_in, cell_other, cell_same}
@@ -67,9 +67,9 @@ module _ {s s' : List ℕ} {a t z e k : ℕ} {v : CellValue} (c : Corrected s s'
   abbrev write : Cell → Cell
   write = written p₀ v
 
-  abbrev write_found : Found → Found
-  write_found (There d left) = There (write d) left
-  write_found Absent = Absent
+  abbrev write_found : Option Found → Option Found
+  write_found (Some f) = Some (record { cell = write f.cell; left = f.left })
+  write_found None = None
 
   -- of another record
   pub field_apart : (x t₁ z₁ f j : ℕ) → header_at s x ≡ Record t₁ z₁ f → j < count_of (shape_of t₁) s x z₁ → (f ≤ a) ⊎ (e ≤ x) → field_from t₁ x j ≡ p₀ → ⊥
@@ -77,13 +77,13 @@ module _ {s s' : List ℕ} {a t z e k : ℕ} {v : CellValue} (c : Corrected s s'
   field_apart x t₁ z₁ f j o l (inr m) q = let i = inside c in let n = field_inside s x t₁ z₁ f o j l in omega arith
 
   module _ (x t₁ z₁ f j : ℕ) (o : header_at s x ≡ Record t₁ z₁ f) (apart : (f ≤ a) ⊎ (e ≤ x)) where
-    kept_by : (y : Found) → found_of s (shape_of t₁) x z₁ j ≡ y → y ≡ write_found y
+    kept_by : (y : Option Found) → found_of s (shape_of t₁) x z₁ j ≡ y → y ≡ write_found y
     unfolding cell_of cell_from
-    kept_by (There d left) q =
-        let i = found_there s (shape_of t₁) x z₁ j d left q in
-        let n : d.field ≡ field_from t₁ x j = ap (λ (y : Cell). y.field) i.cell in
-        ap (λ (y : Cell). There y left) (sym (written_other p₀ v d (λ r. field_apart x t₁ z₁ f j o i.below apart (sym n ∙ r))))
-    kept_by Absent q = refl
+    kept_by (Some y) q =
+        let i = found_there s (shape_of t₁) x z₁ j y q in
+        let n : y.cell.field ≡ field_from t₁ x j = ap (λ (d : Cell). d.field) i.cell in
+        ap (λ (d : Cell). Some (record { cell = d; left = y.left })) (sym (written_other p₀ v y.cell (λ r. field_apart x t₁ z₁ f j o i.below apart (sym n ∙ r))))
+    kept_by None q = refl
 
     found_kept : found_of s' (shape_of t₁) x z₁ j ≡ write_found (found_of s (shape_of t₁) x z₁ j)
     found_kept =
@@ -134,10 +134,10 @@ module _ {s s' : List ℕ} {a t z e k : ℕ} {v : CellValue} (c : Corrected s s'
   found_written : (j : ℕ) → found_of s' h₀ a z j ≡ write_found (found_of s h₀ a z j)
   unfolding found_of pick
   found_written j =
-      ap₂ (λ (n : ℕ) (d : Cell). pick (ltb j n) (There d (n - (j + 1))) Absent) count_is (part_is j)
+      ap₂ (λ (n : ℕ) (d : Cell). pick {A = Option Found} (ltb j n) (Some (record { cell = d; left = n - (j + 1) })) None) count_is (part_is j)
       ∙ go (ltb j (count_of h₀ s a z))
     where
-      go : (b : Bool) → pick b (There (write (cell_of s (field_of h₀) a j)) (count_of h₀ s a z - (j + 1))) Absent ≡ write_found (pick b (There (cell_of s (field_of h₀) a j) (count_of h₀ s a z - (j + 1))) Absent)
+      go : (b : Bool) → pick {A = Option Found} b (Some (record { cell = write (cell_of s (field_of h₀) a j); left = count_of h₀ s a z - (j + 1) })) None ≡ write_found (pick {A = Option Found} b (Some (record { cell = cell_of s (field_of h₀) a j; left = count_of h₀ s a z - (j + 1) })) None)
       go true = refl
       go false = refl
 
@@ -148,9 +148,9 @@ module _ {s s' : List ℕ} {a t z e k : ℕ} {v : CellValue} (c : Corrected s s'
       rw (q, m.0, m.1) (found_written j)
   found_is x t₁ z₁ f j o (inr q) = found_kept x t₁ z₁ f j o q
 
-  on_found_lem : (w : Place) (t₁ f : ℕ) (x : Found) → on_found w t₁ f (write_found x) ≡ map_item write (on_found w t₁ f x)
-  on_found_lem w t₁ f (There d left) = refl
-  on_found_lem w t₁ f Absent = sym (other_map write w t₁ f)
+  on_found_lem : (w : Place) (t₁ f : ℕ) (x : Option Found) → on_found w t₁ f (write_found x) ≡ map_item write (on_found w t₁ f x)
+  on_found_lem w t₁ f (Some y) = refl
+  on_found_lem w t₁ f None = sym (other_map write w t₁ f)
 
   on_record : (w : Place) (t₁ z₁ f : ℕ) → header_at s w.at ≡ Record t₁ z₁ f → Beside s a e w.at → record_item s' w t₁ z₁ f ≡ map_item write (record_item s w t₁ z₁ f)
   unfolding record_item pick

@@ -24,9 +24,10 @@ use Rattle.strings.specs.Table.{table_of, answer_of, strings_of}
 use Rattle.strings.proofs.Local.{strings_same}
 use Rattle.globals.specs.declared.Globals.{Globals}
 use Rattle.globals.specs.declared.Step.{Step}
-use Rattle.globals.specs.declared.Step.TheVariants.{More, Close, Stop}
-use Rattle.globals.specs.declared.Ended.{Ended}
-use Rattle.globals.specs.declared.Ended.TheVariants.{At, Refused}
+use Rattle.globals.specs.declared.Step.TheVariants.{More, Close}
+use Rattle.std.specs.Prelude.{Result, Ok, Err}
+use Rattle.refusal.specs.declared.Refusal.{Refusal}
+use Rattle.refusal.specs.Refused.{refuse}
 use Rattle.globals.specs.Globals.{past, past_table, boundsheet_record, on_table, sst_record, bof_record, eof_record, continue_record, record_in, on_header, step_of, turn, records_from, opened, is_globals_bof, on_first, globals_of}
 use Rattle.globals.proofs.Laws.{go, left, falls}
 use Rattle.reading.specs.Reading.{strings_at}
@@ -50,10 +51,10 @@ later : (s : List ℕ) (p to up : ℕ) → to ≤ up → (p ≡ 0) ⊎ Table s p
 later s p to up l (inl h) = inl h
 later s p to up l (inr h) = inr (record { size = h.size; end = h.end; places = h.places; last = h.last; header = h.header; is = h.is; ends = let i = h.ends in omega arith })
 
-abbrev Holds : List ℕ → Step → Type 0
-Holds s (More w) = Tabled s w
-Holds s (Close w) = Tabled s w
-Holds s (Stop n o) = Unit {0}
+abbrev Holds : List ℕ → Result Step Refusal → Type 0
+Holds s (Ok (More w)) = Tabled s w
+Holds s (Ok (Close w)) = Tabled s w
+Holds s (Err r) = Unit {0}
 
 module _ (s : List ℕ) (v : Globals) (h : Tabled s v) (t z e : ℕ) (is : header_at s v.at ≡ Record t z e) where
   kept : Tabled s v → (v.table ≡ 0) ⊎ Table s v.table e
@@ -85,32 +86,32 @@ unfolding step_of
 holds s v h = holds_header s v h (header_at s v.at) refl
 
 module _ (s : List ℕ) (w : Globals) where
-  holds_more : (x : Step) → Holds s x → turn x ≡ more w → Tabled s w
-  holds_more (More y) h e = let i : ◌≡◌ {A = Globals} y w = cc in subst (Tabled s) i h
-  holds_more (Close y) h e = never (cc)
-  holds_more (Stop n o) h e = never (cc)
+  holds_more : (x : Result Step Refusal) → Holds s x → turn x ≡ more w → Tabled s w
+  holds_more (Ok (More y)) h e = let i : ◌≡◌ {A = Globals} y w = cc in subst (Tabled s) i h
+  holds_more (Ok (Close y)) h e = never (cc)
+  holds_more (Err r) h e = never (cc)
 
-  holds_stop : (x : Step) → Holds s x → turn x ≡ stop (At w) → Tabled s w
-  holds_stop (More y) h e = never (cc)
-  holds_stop (Close y) h e = let i : ◌≡◌ {A = Globals} y w = cc in subst (Tabled s) i h
-  holds_stop (Stop n o) h e = never (cc)
+  holds_stop : (x : Result Step Refusal) → Holds s x → turn x ≡ stop (Ok w) → Tabled s w
+  holds_stop (Ok (More y)) h e = never (cc)
+  holds_stop (Ok (Close y)) h e = let i : ◌≡◌ {A = Globals} y w = cc in subst (Tabled s) i h
+  holds_stop (Err r) h e = never (cc)
 
-records_tabled : (s : List ℕ) (v w : Globals) → Tabled s v → records_from s v ≡ At w → Tabled s w
+records_tabled : (s : List ℕ) (v w : Globals) → Tabled s v → records_from s v ≡ Ok w → Tabled s w
 unfolding records_from
 records_tabled s v w h e =
-    run_keeps (go s) (Refused 4 (length s)) (left s) (falls s) (Tabled s) (λ a. a ≡ At w → Tabled s w)
+    run_keeps (go s) (refuse 4 (length s)) (left s) (falls s) (Tabled s) (λ a. a ≡ Ok w → Tabled s w)
     (λ u x i j. holds_more s x (step_of s u) (holds s u i) j)
     (λ u a i j l. holds_stop s w (step_of s u) (holds s u i) (j ∙ ap stop l))
     v h e
 
 -- the string table of a stream whose globals hold g
-pub globals_tabled : (s : List ℕ) (u : ℕ) (g : Globals) → globals_of s u ≡ At g → Tabled s g
+pub globals_tabled : (s : List ℕ) (u : ℕ) (g : Globals) → globals_of s u ≡ Ok g → Tabled s g
 unfolding globals_of opened
 globals_tabled s u g h = by (header_at s 0) h
   where
-    by : (x : Header) → on_first s u x ≡ At g → Tabled s g
+    by : (x : Header) → on_first s u x ≡ Ok g → Tabled s g
     by (Record t z e) i =
-        pick_by (λ (a : Ended). a ≡ At g → Tabled s g) (is_globals_bof s t z)
+        pick_by (λ (a : Result Globals Refusal). a ≡ Ok g → Tabled s g) (is_globals_bof s t z)
         (λ _ j. records_tabled s (opened u) g (inl refl) j)
         (λ _ j. never (cc)) i
     by Cut i = never (cc)
@@ -123,7 +124,7 @@ module _ (s s' : List ℕ) (len : length s ≡ length s') (to : ℕ) (same : Sam
   table_kept p t =
       let w = whole s p 0x00FC t.size t.end t.header in
       let l = t.ends in
-      let m = reach_ahead s (table_reach s p t.end (length t.places) t.last.end (ap answer_of t.is)) in
+      let m = reach_ahead s (table_reach s p t.end (record { strings = length t.places; end = t.last.end }) (ap answer_of t.is)) in
       let size : u16_at s (p + 2) ≡ u16_at s' (p + 2) = num_same s s' 2 (p + 2) (λ k i j. same k (omega arith) (omega arith)) in
       let end : p + 4 + u16_at s (p + 2) ≡ t.end = omega arith in
       let is : table_of s p (p + 4 + u16_at s (p + 2)) ≡ got t.places t.last = ap (table_of s p) end ∙ t.is in

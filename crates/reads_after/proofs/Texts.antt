@@ -11,10 +11,10 @@ use Rattle.record.specs.Record.{header_at}
 use Rattle.segments.specs.declared.Cursor.{Cursor}
 use Rattle.segments.specs.Segments.{Got, got, refused, list_of}
 use Rattle.segments.specs.Parts.{Passes}
-use Rattle.strings.specs.declared.Fetched.TheVariants.{Refused}
+use Rattle.refusal.specs.Refused.{refuse}
 use Rattle.strings.specs.Table.{fetched_of, buffer_of}
 use Rattle.cell.specs.declared.Cell.{Cell}
-use Rattle.text_result.specs.declared.Placed.TheVariants.{Formula}
+use Rattle.std.specs.Prelude.{Some}
 use Rattle.text_result.specs.TextResult.{has_text, text_of}
 use Rattle.text_result.specs.FromPlace.{placed_at, placed_text, answer_to, buffer_to, answer_at, buffer_at}
 use Rattle.text_result.proofs.FromPlace.{placed_text_lem}
@@ -51,12 +51,12 @@ module _ (s : List ℕ) (from to : ℕ) (c : Cell) (j : ListedTo s from to c) (q
   unfolding units_of text_after
   units_are = ap (on_formula s (c.field - 10)) (sym header_is) ∙ pick_true _ _ _ (says_text c.value) q refl
 
-  placed_is : placed_at s c.field ≡ Formula (c.field - 10) j.listed.end
+  placed_is : placed_at s c.field ≡ Some (record { at = c.field - 10; end = j.listed.end })
   placed_is =
       let f = field_is in
       let l = room_of s j.listed.type j.listed.at j.listed.size j.listed.part (listed_here j.listed).below formula in
-      let h : true ≡ has_text s j.listed.type (c.field - 10) = sym has ∙ ap (has_text s j.listed.type) at_is in
-      sym (placed_text_lem s c.field (omega arith) (header_at s (c.field - 10)) refl j.listed.type j.listed.size j.listed.end header_is l true h refl)
+      let h : has_text s j.listed.type (c.field - 10) ≡ true = ap (has_text s j.listed.type) (sym at_is) ∙ has in
+      sym (placed_text_lem s c.field j.listed.type j.listed.size j.listed.end (omega arith) header_is l h)
 
   module _ (us : List ℕ) (d : Cursor) (i : text_of s (c.field - 10) j.listed.end ≡ got us d) where
     from_place : placed_text s (placed_at s c.field) ≡ got (units_of s c) d
@@ -64,7 +64,7 @@ module _ (s : List ℕ) (from to : ℕ) (c : Cell) (j : ListedTo s from to c) (q
 
     place_answer : (b : List ℕ) → answer_at s c.field b ≡ fetched_of (length b) (units_of s c)
     unfolding answer_at
-    place_answer b = ap (answer_to (Refused 11 0) (length b)) from_place
+    place_answer b = ap (answer_to (refuse 11 0) (length b)) from_place
 
     place_buffer : (b : List ℕ) → buffer_at s c.field b ≡ buffer_of b (units_of s c)
     unfolding buffer_at

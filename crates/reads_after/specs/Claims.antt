@@ -14,8 +14,7 @@ use Rattle.text_result.specs.FromPlace.{answer_at, buffer_at}
 use Rattle.sheet_agreement.specs.Agreement.{Sheet}
 use Rattle.globals.specs.declared.Globals.{Globals}
 use Rattle.globals.specs.Sheets.{sheets_of}
-use Rattle.workbook.specs.declared.Checked.TheVariants.{Right}
-use Rattle.workbook.specs.Check.{checked_of}
+use Rattle.workbook.specs.Check.{Right, checked_of}
 use Rattle.reading.specs.Reading.{listed_of, says_text, units_of, reading_of}
 use Rattle.record_chain.specs.Chain.{Every, Nth}
 use Rattle.correction.specs.Correction.{correction_of, writes, stream_after}

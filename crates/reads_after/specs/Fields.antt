@@ -9,8 +9,7 @@ use Rattle.new_value.specs.Change.{Held}
 use Rattle.sheet_agreement.specs.Agreement.{Sheet}
 use Rattle.globals.specs.declared.Globals.{Globals}
 use Rattle.globals.specs.Sheets.{sheets_of}
-use Rattle.workbook.specs.declared.Checked.TheVariants.{Right}
-use Rattle.workbook.specs.Check.{checked_of}
+use Rattle.workbook.specs.Check.{Right, checked_of}
 use Rattle.reading.specs.Reading.{listed_of}
 use Rattle.correction.specs.Correction.{writes, correction_of, stream_after}
 use Rattle.record_chain.specs.Chain.{Nth}

@@ -9,7 +9,7 @@ use Rattle.cell.specs.declared.Cell.{Cell}
 use Rattle.cell.specs.Cells.{shape_of, field_of, part_of, count_of, field_at}
 use Rattle.record_after.specs.Claims.{place_of, revalued}
 use Rattle.substream.specs.declared.Here.{Here}
-use Rattle.substream.specs.declared.Ended.TheVariants.{At}
+use Rattle.std.specs.Prelude.{Ok}
 use Rattle.substream.specs.Substream.{records_from, substream_in}
 use Rattle.segments.specs.Parts.{Passes}
 use Rattle.text_result.specs.TextResult.{has_text, text_of}
@@ -44,8 +44,8 @@ addressed row column c = eqb c.row row && eqb c.column column
 -- a record at `at`, inside l substreams of the worksheet that ends at `to`: the walk of each of them from there on comes to its end. The walk goes past a
 -- formula's text result in one step: the records of it are plain, and lead to where the walk goes on
 pub data Inside (s : List ℕ) (u to : ℕ) : ℕ → ℕ → Type 0 where
-  sheet : {l at : ℕ} (h : Here) → l ≡ 0 → h.at ≡ at → records_from (substream_in 3 s u 0x0020) s 0x0010 u h ≡ At to → Inside s u to l at
-  chart : {l at : ℕ} (m d e : ℕ) (h : Here) → l ≡ m + 1 → m + d ≡ 2 → h.at ≡ at → records_from (substream_in d s u 0x0020) s 0x0020 u h ≡ At e → Inside s u to m e → Inside s u to l at
+  sheet : {l at : ℕ} (h : Here) → l ≡ 0 → h.at ≡ at → records_from (substream_in 3 s u 0x0020) s 0x0010 u h ≡ Ok to → Inside s u to l at
+  chart : {l at : ℕ} (m d e : ℕ) (h : Here) → l ≡ m + 1 → m + d ≡ 2 → h.at ≡ at → records_from (substream_in d s u 0x0020) s 0x0020 u h ≡ Ok e → Inside s u to m e → Inside s u to l at
   plain : {l at : ℕ} (e : ℕ) → Plain s at e → Inside s u to l e → Inside s u to l at
 
 -- a listed cell whose record ends at or before `to`; where it is a formula with a text result, nothing of that is refused

@@ -1,5 +1,5 @@
 // The record at a place of the stream: type u16, size u16, body.
-#![tactic(auto)]
+#![tactic(auto, unfolding(crate::specs::Record::header_at, steps::specs::Choice::pick))]
 
 ghost use Rattle.std.specs.Prelude.{◌≡◌};
 ghost use Rattle.record.specs.Record.{header_at};
@@ -23,11 +23,8 @@ pub fn header_at(s: &[u8], at: usize) -> Header
     if n - at < 4 {
         return Header::Cut;
     }
-    let size = byte_numbers::u16_as_usize(byte_numbers::u16_at(s, at + 2));
-    if 8224 < size {
-        return Header::Cut;
-    }
-    if n - (at + 4) < size {
+    let size = usize::from(byte_numbers::u16_at(s, at + 2));
+    if 8224 < size || n - (at + 4) < size {
         return Header::Cut;
     }
     Header::Record {

@@ -13,9 +13,11 @@ use Rattle.byte_numbers.proofs.Laws.{Same, num_same}
 use Rattle.value.specs.Value.{index_fits}
 use Rattle.cell.specs.declared.Shape.{Shape}
 use Rattle.cell.specs.declared.Shape.TheVariants.{BLANK, NUMBER, RK, LABELSST, BOOLERR, MULRK, MULBLANK, FORMULA, OTHER}
-use Rattle.cell.specs.declared.Judged.{Judged}
-use Rattle.cell.specs.declared.Judged.TheVariants.{Passed, Refused, Other}
-use Rattle.cell.specs.declared.Found.TheVariants.{There, Absent}
+use Rattle.std.specs.Prelude.{Option, Some, None, Result, Ok}
+use Rattle.refusal.specs.Refused.{refuse}
+use Rattle.refusal.specs.declared.Refusal.{Refusal}
+use Rattle.cell.specs.declared.Cell.{Cell}
+use Rattle.cell.specs.declared.Found.{Found}
 use Rattle.cell.specs.Cells.{is_cell, field_of, part_of, row_at, first_at, last_at, sized, columns, multiple, length_at, count_of, field_at, cell_from, cells_from, cells_of, cell_of, found_of, fields_fit, judged, judge_of}
 use Rattle.cell.proofs.Sizes.{multiple_short, formula_none}
 use Rattle.record_after.proofs.Fields.{field_same, cell_same, cells_same, fits_same}
@@ -102,10 +104,10 @@ module _ (s s' : List ℕ) (at z : ℕ) where
 
     pub found_local : (k : ℕ) → found_of s' h at z k ≡ found_of s h at z k
     unfolding found_of pick
-    found_local k = ap (λ (n : ℕ). pick (ltb k n) (There (cell_of s' (field_of h) at k) (n - (k + 1))) Absent) (count_local h a) ∙ go (ltb k (count_of h s at z)) refl
+    found_local k = ap (λ (n : ℕ). pick {A = Option Found} (ltb k n) (Some (record { cell = cell_of s' (field_of h) at k; left = n - (k + 1) })) None) (count_local h a) ∙ go (ltb k (count_of h s at z)) refl
       where
-        go : (b : Bool) → ltb k (count_of h s at z) ≡ b → pick b (There (cell_of s' (field_of h) at k) (count_of h s at z - (k + 1))) Absent ≡ pick b (There (cell_of s (field_of h) at k) (count_of h s at z - (k + 1))) Absent
-        go true e = ap (λ x. There x (count_of h s at z - (k + 1))) (cell_local k (ltb-true k (count_of h s at z) e))
+        go : (b : Bool) → ltb k (count_of h s at z) ≡ b → pick {A = Option Found} b (Some (record { cell = (cell_of s' (field_of h) at k); left = (count_of h s at z - (k + 1)) })) None ≡ pick {A = Option Found} b (Some (record { cell = (cell_of s (field_of h) at k); left = (count_of h s at z - (k + 1)) })) None
+        go true e = ap (λ (x : Cell). Some (record { cell = x; left = count_of h s at z - (k + 1) })) (cell_local k (ltb-true k (count_of h s at z) e))
         go false e = refl
 
     judged_local : (u : ℕ) → judged s' h at z u ≡ judged s h at z u
@@ -113,10 +115,10 @@ module _ (s s' : List ℕ) (at z : ℕ) where
     judged_local u = rw (count_local h a) (pick_same (eqb (count_of h s at z) 0) _ _ _ _ (λ e. refl) (λ e. some (let o = eqb-false (count_of h s at z) 0 e in omega arith)))
       where
         some : 0 < count_of h s at z
-            → pick (ltb 255 (first_at s' at)) (Refused 6 at) (pick (fields_fit (field_of h) s' (at + 8) (count_of h s at z)) (pick (index_fits (field_of h) (field_at (field_of h) s' (at + 8)) u) (Passed (count_of h s at z)) (Refused 9 at)) (Refused 6 at))
-            ≡ pick (ltb 255 (first_at s at)) (Refused 6 at) (pick (fields_fit (field_of h) s (at + 8) (count_of h s at z)) (pick (index_fits (field_of h) (field_at (field_of h) s (at + 8)) u) (Passed (count_of h s at z)) (Refused 9 at)) (Refused 6 at))
+            → pick (ltb 255 (first_at s' at)) (refuse 6 at) (pick (fields_fit (field_of h) s' (at + 8) (count_of h s at z)) (pick (index_fits (field_of h) (field_at (field_of h) s' (at + 8)) u) (Ok (Some (count_of h s at z))) (refuse 9 at)) (refuse 6 at))
+            ≡ pick (ltb 255 (first_at s at)) (refuse 6 at) (pick (fields_fit (field_of h) s (at + 8) (count_of h s at z)) (pick (index_fits (field_of h) (field_at (field_of h) s (at + 8)) u) (Ok (Some (count_of h s at z))) (refuse 9 at)) (refuse 6 at))
         some l = rw (first_is 0 l, fits_same s s' (field_of h) (count_of h s at z) (at + 8) (parts_same 0 l), ← field_same s s' (field_of h) (at + 8) (λ x i j. parts_same 0 l x i (omega (arith, inside 0 l))))
 
     pub judge_local : (u : ℕ) → judge_of s' h at z u ≡ judge_of s h at z u
     unfolding judge_of
-    judge_local u = ap (λ (x : Judged). pick (is_cell h) x Other) (judged_local u)
+    judge_local u = ap (λ (x : Result (Option ℕ) Refusal). pick (is_cell h) x (Ok None)) (judged_local u)

@@ -14,8 +14,6 @@ use Rattle.truth_error.specs.Boolerr.{is_truth, is_error}
 use Rattle.number.specs.Float64.{is_nan_bits, bits_of}
 use Rattle.number.specs.Rk.{rk_of}
 use Rattle.number.specs.Packing.{Means, pack_of}
-use Rattle.number.specs.declared.Packed.{Packed}
-use Rattle.number.specs.declared.Packed.TheVariants.{Word, Unpacked}
 use Rattle.number.proofs.Laws.{float_of_bits, bits_of_lt, sound, refused_exactly, packed_number}
 use Rattle.value.specs.declared.Field.{Field}
 use Rattle.value.specs.declared.Field.TheVariants.{NoField, Float, RkWord, TextIndex, TruthError, StoredResult}
@@ -23,21 +21,22 @@ use Rattle.value.specs.declared.CellValue.TheVariants.{Number as CellNumber, Not
 use Rattle.value.specs.Value.{float_value, rk_value, truth_error, truth_error_fits}
 use Rattle.new_value.specs.declared.NewValue.{NewValue}
 use Rattle.new_value.specs.declared.NewValue.TheVariants.{Number, Text, Truth, Error}
-use Rattle.new_value.specs.declared.Plan.TheVariants.{Put, Refused}
+use Rattle.std.specs.Prelude.{Option, Some, None, Ok}
+use Rattle.refusal.specs.Refused.{refuse}
 use Rattle.new_value.specs.Change.{Held, put_if, finite, float_plan, packed_plan, pair_plan, plan_of, new_of}
 use Rattle.record_after.specs.Claims.{Says}
 
-refused_put : {A : Type 0} (number offset b : ℕ) → Refused number offset ≡ Put b → A
+refused_put : {A : Type 0} (number offset b : ℕ) → refuse {A = ℕ} number offset ≡ Ok b → A
 refused_put number offset b e = never (cc)
 
-put_right : (t : Bool) (n b : ℕ) → put_if t n ≡ Put b → (t ≡ true) × (n ≡ b)
+put_right : (t : Bool) (n b : ℕ) → put_if t n ≡ Ok b → (t ≡ true) × (n ≡ b)
 unfolding put_if pick
 put_right true n b e = (refl, cc)
 put_right false n b e = refused_put 18 0 b e
 
-word_put : (k : Packed) (b : ℕ) → packed_plan k ≡ Put b → k ≡ Word b
-word_put (Word w) b e = cc
-word_put Unpacked b e = refused_put 18 0 b e
+word_put : (k : Option ℕ) (b : ℕ) → packed_plan k ≡ Ok b → k ≡ Some b
+word_put (Some w) b e = cc
+word_put None b e = refused_put 18 0 b e
 
 -- ---- the number's 64 bits
 finite_number : (b : ℕ) → finite b ≡ true → is_nan_bits b ≡ false
@@ -56,7 +55,7 @@ module _ (x : Ieee.Float) (held : T (fits binary64 x)) where
   unfolding float_value
   says_float e = sym (pick_false (CellNumber x) (CellNotNumber (bits_of x)) (CellNumber (of_bits binary64 (bits_of x))) _ (finite_number (bits_of x) e) (ap CellNumber (sym (float_of_bits x held))))
 
-  says_word : (b : ℕ) → pack_of (bits_of x) ≡ Word b → rk_value (rk_of b) ≡ CellNumber x
+  says_word : (b : ℕ) → pack_of (bits_of x) ≡ Some b → rk_value (rk_of b) ≡ CellNumber x
   says_word b e = ap rk_value (packed_number (bits_of x) b (bits_of_lt x held) e) ∙ ap CellNumber (float_of_bits x held)
 
 -- ---- the two bytes of a truth or an error
@@ -78,7 +77,7 @@ says_error e l h =
     )
 
 -- ---- by the field's kind and the value's
-says_number : (x : Ieee.Float) (f : Field) (u b : ℕ) → Held (Number x) → plan_of f (Number x) u ≡ Put b → Says f (Number x) u b
+says_number : (x : Ieee.Float) (f : Field) (u b : ℕ) → Held (Number x) → plan_of f (Number x) u ≡ Ok b → Says f (Number x) u b
 unfolding float_plan
 says_number x NoField u b l e = refused_put 17 0 b e
 says_number x Float u b l e =
@@ -92,7 +91,7 @@ says_number x TextIndex u b l e = refused_put 17 0 b e
 says_number x TruthError u b l e = refused_put 17 0 b e
 says_number x StoredResult u b l e = refused_put 17 0 b e
 
-says_text_lem : (i : ℕ) (f : Field) (u b : ℕ) → Held (Text i) → plan_of f (Text i) u ≡ Put b → Says f (Text i) u b
+says_text_lem : (i : ℕ) (f : Field) (u b : ℕ) → Held (Text i) → plan_of f (Text i) u ≡ Ok b → Says f (Text i) u b
 says_text_lem i NoField u b l e = refused_put 17 0 b e
 says_text_lem i Float u b l e = refused_put 17 0 b e
 says_text_lem i RkWord u b l e = refused_put 17 0 b e
@@ -103,7 +102,7 @@ says_text_lem i TruthError u b l e = refused_put 17 0 b e
 says_text_lem i StoredResult u b l e = refused_put 17 0 b e
 
 -- a truth or an error goes as the number n, where it is right
-says_pair : (v : NewValue) (t : Bool) (n : ℕ) → n < 65536 → (t ≡ true → (truth_error_fits n ≡ true) × (truth_error n ≡ new_of v)) → (f : Field) (u b : ℕ) → pair_plan f t n ≡ Put b → Says f v u b
+says_pair : (v : NewValue) (t : Bool) (n : ℕ) → n < 65536 → (t ≡ true → (truth_error_fits n ≡ true) × (truth_error n ≡ new_of v)) → (f : Field) (u b : ℕ) → pair_plan f t n ≡ Ok b → Says f v u b
 says_pair v t n small right NoField u b e = refused_put 17 0 b e
 says_pair v t n small right Float u b e = refused_put 17 0 b e
 says_pair v t n small right RkWord u b e = refused_put 17 0 b e
@@ -114,7 +113,7 @@ says_pair v t n small right TruthError u b e =
     record { small = rw r.1 at small; right = ap truth_error_fits (sym r.1) ∙ s.0; index = refl; value = ap truth_error (sym r.1) ∙ s.1 }
 says_pair v t n small right StoredResult u b e = refused_put 17 0 b e
 
-pub planned : (f : Field) (v : NewValue) (u b : ℕ) → Held v → plan_of f v u ≡ Put b → Says f v u b
+pub planned : (f : Field) (v : NewValue) (u b : ℕ) → Held v → plan_of f v u ≡ Ok b → Says f v u b
 planned f (Number x) u b l e = says_number x f u b l e
 planned f (Text i) u b l e = says_text_lem i f u b l e
 planned f (Truth t) u b l e = says_pair (Truth t) (is_truth t) t (omega arith) (says_truth t l) f u b e
@@ -122,11 +121,11 @@ planned f (Error c) u b l e = says_pair (Error c) (is_error c) (c + 256) (omega 
 
 -- ---- 18
 -- for a packed cell, exactly where no undivided word means the number
-pub unpacked : (x : Ieee.Float) (u : ℕ) → T (fits binary64 x) → (plan_of RkWord (Number x) u ≡ Refused 18 0) ↔ ((w : ℕ) → Means w (bits_of x) → ⊥)
+pub unpacked : (x : Ieee.Float) (u : ℕ) → T (fits binary64 x) → (plan_of RkWord (Number x) u ≡ refuse 18 0) ↔ ((w : ℕ) → Means w (bits_of x) → ⊥)
 unpacked x u held =
     let exactly = refused_exactly (bits_of x) (bits_of_lt x held) in
     (λ e. exactly.0 (none (pack_of (bits_of x)) e), λ n. ap packed_plan (exactly.1 n))
   where
-    none : (k : Packed) → packed_plan k ≡ Refused 18 0 → k ≡ Unpacked
-    none (Word w) e = refused_put 18 0 w (sym e)
-    none Unpacked e = refl
+    none : (k : Option ℕ) → packed_plan k ≡ refuse 18 0 → k ≡ None
+    none (Some w) e = refused_put 18 0 w (sym e)
+    none None e = refl

@@ -13,21 +13,15 @@ use Rattle.steps.proofs.Choice.{never, pick_any, pick_by, pick_nlt}
 use Rattle.record.specs.declared.Header.{Header}
 use Rattle.record.specs.declared.Header.TheVariants.{Record, Cut, End}
 use Rattle.record.specs.Record.{header_at}
-use Rattle.sheet_agreement.specs.declared.Agreement.{Agreement}
-use Rattle.sheet_agreement.specs.declared.Agreement.TheVariants.{Agree, Disagree}
+use Rattle.std.specs.Prelude.{Option, None, Some, Result, Ok, Err}
+use Rattle.refusal.specs.declared.Refusal.{Refusal}
 use Rattle.sheet_agreement.specs.Agreement.{Sheet, Bof, starts, named, right, judged, claimed, agreement_of}
 use Rattle.globals.specs.declared.Globals.{Globals}
-use Rattle.globals.specs.declared.Ended.{Ended}
-use Rattle.globals.specs.declared.Ended.TheVariants as globals
 use Rattle.globals.specs.declared.Bound.{Bound}
 use Rattle.globals.specs.Globals.{globals_of}
 use Rattle.globals.specs.Sheets.{sheet_at, on_bound, bound_at, sheet_item, sheets_from, sheets_of}
-use Rattle.top_level.specs.declared.Walked.{Walked}
-use Rattle.top_level.specs.declared.Walked.TheVariants as walked
 use Rattle.top_level.specs.TopLevel.{tops_from, bofs_from}
-use Rattle.workbook.specs.declared.Checked.{Checked}
-use Rattle.workbook.specs.declared.Checked.TheVariants.{Right}
-use Rattle.workbook.specs.Check.{agreed, on_walked, on_globals, checked_of}
+use Rattle.workbook.specs.Check.{Checked, Right, agreed, on_walked, on_globals, checked_of}
 use Rattle.record_chain.specs.Chain.{here, on, Reach, Every, Nth, first, next}
 use Rattle.record_chain.specs.Tops.{Passing, SheetsStand, SheetsApart}
 use Rattle.record_chain.proofs.Chain.{chain_trans, over, every_nth, Keeps, collect_every}
@@ -35,19 +29,19 @@ use Rattle.record_chain.proofs.Tops.{bof_stands, tops_apart}
 
 -- ---- a stream that passes
 module _ (s : List ℕ) (u : ℕ) (g : Globals) where
-  agree_by : (h : Globals) (a : Agreement) → agreed h a ≡ Right g → (h ≡ g) × (a ≡ Agree)
-  agree_by h Agree e = (cc, refl)
-  agree_by h (Disagree o) e = never (cc)
+  agree_by : (h : Globals) (a : Option ℕ) → agreed h a ≡ Right g → (h ≡ g) × (a ≡ None)
+  agree_by h None e = (cc, refl)
+  agree_by h (Some o) e = never (cc)
 
-  walked_by : (h : Globals) (w : Walked) → on_walked s h w ≡ Right g → (h ≡ g) × (w ≡ walked.Passed) × (agreement_of (sheets_of s) (bofs_from s h.unique h.at) ≡ Agree)
-  walked_by h walked.Passed e = let a = agree_by h (agreement_of (sheets_of s) (bofs_from s h.unique h.at)) e in (a.0, refl, a.1)
-  walked_by h (walked.Refused n o) e = never (cc)
+  walked_by : (h : Globals) (w : Result (Unit {0}) Refusal) → on_walked s h w ≡ Right g → (h ≡ g) × (w ≡ Ok tt) × (agreement_of (sheets_of s) (bofs_from s h.unique h.at) ≡ None)
+  walked_by h (Ok t) e = let a = agree_by h (agreement_of (sheets_of s) (bofs_from s h.unique h.at)) e in (a.0, refl, a.1)
+  walked_by h (Err r) e = never (cc)
 
-  globals_by : length s ≤ 16777216 → (a : Ended) → globals_of s u ≡ a → on_globals s a ≡ Right g → Passing s u g
-  globals_by l (globals.At h) i e =
+  globals_by : length s ≤ 16777216 → (a : Result Globals Refusal) → globals_of s u ≡ a → on_globals s a ≡ Right g → Passing s u g
+  globals_by l (Ok h) i e =
       let w = walked_by h (tops_from s h.unique h.at) e in
       subst (Passing s u) w.0 (record { short = l; globals = i; tops = w.1; agree = w.2 })
-  globals_by l (globals.Refused n o) i e = never (cc)
+  globals_by l (Err r) i e = never (cc)
 
   pub passing : checked_of s u ≡ Right g → Passing s u g
   unfolding checked_of
@@ -92,11 +86,11 @@ module _ (bofs : List Bof) where
       by true e = sym (or_right (eqb x.position y.position) (named earlier y.position) e) ∙ f.0
       by false e = refl
 
-  agreeing : (v : Agreement) (earlier l : List Sheet) → judged bofs earlier l v ≡ Agree → Every At l × Every (Free earlier) l × Apart l
+  agreeing : (v : Option ℕ) (earlier l : List Sheet) → judged bofs earlier l v ≡ None → Every At l × Every (Free earlier) l × Apart l
   unfolding judged
   agreeing v earlier [] h = (tt, tt, tt)
   agreeing v earlier (x ∷ l) h =
-      pick_by (λ (a : Agreement). a ≡ Agree → Every At (x ∷ l) × Every (Free earlier) (x ∷ l) × Apart (x ∷ l)) (right bofs earlier x)
+      pick_by (λ (a : Option ℕ). a ≡ None → Every At (x ∷ l) × Every (Free earlier) (x ∷ l) × Apart (x ∷ l)) (right bofs earlier x)
       (λ r i.
       let rest = agreeing v (x ∷ earlier) l i in
       let a = and_left (starts bofs x.position x.kind) (not (named earlier x.position)) r in
@@ -104,7 +98,7 @@ module _ (bofs : List Bof) where
       ((a, rest.0), (b, free_rest x earlier l rest.1), (free_first x earlier l rest.1, rest.2)))
       (λ _ i. never (cc)) h
 
-  agreement : (sheets : List Sheet) → agreement_of sheets bofs ≡ Agree → Every At sheets × Every (Free []) sheets × Apart sheets
+  agreement : (sheets : List Sheet) → agreement_of sheets bofs ≡ None → Every At sheets × Every (Free []) sheets × Apart sheets
   unfolding agreement_of
   agreement sheets h = agreeing (claimed sheets bofs) [] sheets h
 

@@ -12,8 +12,9 @@ use Rattle.record.proofs.Laws.{whole}
 use Rattle.segments.specs.declared.Cursor.{Cursor}
 use Rattle.segments.proofs.Local.{continue_type}
 use Rattle.segments.specs.Segments.{Got, got, refused, then, push, on as onward, continues, segment_of, next_segment, filled, need, width_of, enter, room, items}
-use Rattle.strings.specs.declared.Strings.{Strings}
-use Rattle.strings.specs.declared.Strings.TheVariants as strings
+use Rattle.std.specs.Prelude.{Result, Ok, Err}
+use Rattle.refusal.specs.declared.Refusal.{Refusal}
+use Rattle.strings.specs.declared.Table.{Table}
 use Rattle.strings.specs.Table.{head, rest, string_at, next_place, strings, first, table_of, answer_of}
 use Rattle.record_chain.specs.Chain.{Chain, here, on, Over, Reach}
 use Rattle.record_chain.proofs.Chain.{chain_trans, over}
@@ -103,9 +104,9 @@ module _ (s : List ℕ) (Step : ℕ → ℕ → Type 0) (continue : (x z e : ℕ
 
 -- ---- the string table
 module _ (s : List ℕ) where
-  abbrev Ends : ℕ → Strings → Type 0
-  Ends e (strings.Table n o) = Reach s e o
-  Ends e (strings.Refused n o) = Unit {0}
+  abbrev Ends : ℕ → Result Table Refusal → Type 0
+  Ends e (Ok t) = Reach s e t.end
+  Ends e (Err r) = Unit {0}
 
   abbrev Ran : {A : Type 0} → Cursor → Got A → Type 0
   Ran c x = Runs s (Over s) (λ x z e h. over s h) c x
@@ -115,5 +116,5 @@ module _ (s : List ℕ) where
   ends_answer p e (refused n o) r = tt
 
   -- the table's end is reached from the end of its SST
-  pub table_reach : (p e n o : ℕ) → answer_of (table_of s p e) ≡ strings.Table n o → Reach s e o
-  table_reach p e n o h = subst (Ends e) h (ends_answer p e (table_of s p e) (runs_table s (Over s) (λ x z e h. over s h) p e))
+  pub table_reach : (p e : ℕ) (t : Table) → answer_of (table_of s p e) ≡ Ok t → Reach s e t.end
+  table_reach p e t h = subst (Ends e) h (ends_answer p e (table_of s p e) (runs_table s (Over s) (λ x z e h. over s h) p e))

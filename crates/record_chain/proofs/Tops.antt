@@ -14,13 +14,13 @@ use Rattle.record.specs.declared.Header.{Header}
 use Rattle.record.specs.declared.Header.TheVariants.{Record, Cut, End}
 use Rattle.record.specs.Record.{header_at}
 use Rattle.record.proofs.Laws.{whole}
-use Rattle.substream.specs.declared.Ended.{Ended}
-use Rattle.substream.specs.declared.Ended.TheVariants as ended
+use Rattle.std.specs.Prelude.{Option, None, Some, Result, Ok, Err}
+use Rattle.refusal.specs.declared.Refusal.{Refusal}
 use Rattle.substream.specs.Substream.{kind_at, substream_in}
 use Rattle.substream.proofs.Laws.{onward}
-use Rattle.sheet_agreement.specs.Agreement.{Bof, starts}
-use Rattle.top_level.specs.declared.Top.{Top}
-use Rattle.top_level.specs.declared.Top.TheVariants.{Open, Done, Stop}
+use Rattle.sheet_agreement.specs.declared.SheetKind.{SheetKind}
+use Rattle.sheet_agreement.specs.Agreement.{same_kind, Bof, starts}
+use Rattle.sheet_agreement.proofs.Laws.{same_kind-true}
 use Rattle.top_level.specs.TopLevel.{on_top, top_of, on_ended, on_open, bof_at, bof_item, bofs_from}
 use Rattle.record_chain.specs.Chain.{here, on, Reach, Every}
 use Rattle.record_chain.specs.Tops.{Substream, Tops, Stands, BofsStand}
@@ -32,10 +32,10 @@ pub record Opening (s : List ℕ) (x k : ℕ) : Type 0 where
   pub header : header_at s x ≡ Record 0x0809 16 (x + 20)
   pub kind : kind_at s x ≡ k
 
-abbrev Opens : List ℕ → ℕ → Top → Type 0
-Opens s x (Open k) = Opening s x k
-Opens s x Done = Unit {0}
-Opens s x (Stop n o) = Unit {0}
+abbrev Opens : List ℕ → ℕ → Result (Option ℕ) Refusal → Type 0
+Opens s x (Ok (Some k)) = Opening s x k
+Opens s x (Ok None) = Unit {0}
+Opens s x (Err r) = Unit {0}
 
 opens_header : (s : List ℕ) (x : ℕ) (h : Header) → header_at s x ≡ h → Opens s x (on_top s x h)
 opens_header s x (Record t z e) h =
@@ -52,7 +52,7 @@ opens_header s x (Record t z e) h =
 opens_header s x Cut h = tt
 opens_header s x End h = tt
 
-pub opening : (s : List ℕ) (x k : ℕ) → top_of s x ≡ Open k → Opening s x k
+pub opening : (s : List ℕ) (x k : ℕ) → top_of s x ≡ Ok (Some k) → Opening s x k
 unfolding top_of
 opening s x k h = subst (Opens s x) h (pick_any (Opens s x) _ tt (opens_header s x (header_at s x) refl))
 
@@ -67,7 +67,7 @@ module _ (s : List ℕ) (u : ℕ) where
       let q = i.opens in
       let k : h.kind ≡ i.kind = cc in
       let a = h.ends in
-      let b : substream_in 4 s u h.kind x ≡ ended.At f = ap (λ (j : ℕ). substream_in 4 s u j x) k ∙ i.ends in
+      let b : substream_in 4 s u h.kind x ≡ Ok f = ap (λ (j : ℕ). substream_in 4 s u j x) k ∙ i.ends in
       cc
 
   pub tops_reach_one : (x e : ℕ) → Substream s u x e → Reach s x e
@@ -87,32 +87,32 @@ module _ (s : List ℕ) (u from : ℕ) where
   abbrev Named : Bof → Type 0
   Named b = Stands s u from b.start b.kind
 
-  named_ended : (x k : ℕ) → Tops s u from x → top_of s x ≡ Open k → (a : Ended) → substream_in 4 s u k x ≡ a → Keeps (Tops s u from) Named (bof_item x (on_ended k a))
-  named_ended x k q o (ended.At e) h =
+  named_ended : (x k : ℕ) → Tops s u from x → top_of s x ≡ Ok (Some k) → (a : Result ℕ Refusal) → substream_in 4 s u k x ≡ a → Keeps (Tops s u from) Named (bof_item x (on_ended k a))
+  named_ended x k q o (Ok e) h =
       let w : Substream s u x e = record { kind = k; opens = o; ends = h } in
       (record { end = e; tops = q; whole = w; number = refl }, chain_trans q (on w here))
-  named_ended x k q o (ended.Refused n i) h = tt
+  named_ended x k q o (Err r) h = tt
 
-  named_open : (x : ℕ) → Tops s u from x → (t : Top) → top_of s x ≡ t → Keeps (Tops s u from) Named (bof_item x (on_open s u x t))
-  named_open x q (Open k) h = named_ended x k q h (substream_in 4 s u k x) refl
-  named_open x q Done h = tt
-  named_open x q (Stop n o) h = tt
+  named_open : (x : ℕ) → Tops s u from x → (t : Result (Option ℕ) Refusal) → top_of s x ≡ t → Keeps (Tops s u from) Named (bof_item x (on_open s u x t))
+  named_open x q (Ok (Some k)) h = named_ended x k q h (substream_in 4 s u k x) refl
+  named_open x q (Ok None) h = tt
+  named_open x q (Err r) h = tt
 
   bofs_named : Every Named (bofs_from s u from)
   unfolding bofs_from bof_at
   bofs_named = collect_every (λ x. bof_item x (bof_at s u x)) (Tops s u from) Named (λ x q. named_open x q (top_of s x) refl) (λ x. length s - x) from here
 
-  starts_named : (l : List Bof) (p k : ℕ) → Every Named l → starts l p k ≡ true → Stands s u from p k
+  starts_named : (l : List Bof) (p : ℕ) (k : SheetKind) → Every Named l → starts l p k ≡ true → Stands s u from p k
   unfolding starts
   starts_named [] p k e h = never (cc)
   starts_named (b ∷ l) p k e h =
       ⊎_elim
       (λ i.
-      let a = eqb-true b.start p (and_left (eqb b.start p) (eqb b.kind k) i) in
-      let c = eqb-true b.kind k (and_right (eqb b.start p) (eqb b.kind k) i) in
-      subst (λ (j : ℕ). Stands s u from p j) c (subst (λ (j : ℕ). Stands s u from j b.kind) a e.0))
+      let a = eqb-true b.start p (and_left (eqb b.start p) (same_kind b.kind k) i) in
+      let c = same_kind-true b.kind k (and_right (eqb b.start p) (same_kind b.kind k) i) in
+      subst (λ (j : SheetKind). Stands s u from p j) c (subst (λ (j : ℕ). Stands s u from j b.kind) a e.0))
       (λ i. starts_named l p k e.1 i)
-      (or_cases (eqb b.start p && eqb b.kind k) (starts l p k) h)
+      (or_cases (eqb b.start p && same_kind b.kind k) (starts l p k) h)
 
 pub bof_stands : BofsStand
 bof_stands s u from p j h = starts_named s u from (bofs_from s u from) p j (bofs_named s u from) h

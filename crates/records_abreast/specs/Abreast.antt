@@ -1,10 +1,9 @@
 -- What the contracts speak of: records of two streams that say the same.
-use Rattle.std.specs.Prelude.{ℕ, zero, suc, ◌+◌, ◌≤◌, ◌<◌, ◌≡◌, true, List, [], ◌∷◌, ◌++◌, length, get_or}
-use Rattle.byte_numbers.specs.Bytes.{u32_at}
+use Rattle.std.specs.Prelude.{ℕ, zero, suc, ◌+◌, ◌≤◌, ◌<◌, ◌≡◌, true, List, [], ◌∷◌, ◌++◌, length, get_or, Option, IfSome}
 use Rattle.value.specs.declared.Field.{Field}
 use Rattle.value.specs.Value.{value_of}
 use Rattle.cell.specs.declared.Cell.{Cell}
-use Rattle.cell.specs.Cells.{shape_of, field_of, part_of, start_of, field_at, row_at, first_at, count_of}
+use Rattle.cell.specs.Cells.{part_of, start_of, field_at}
 use Rattle.reading.specs.Cells.{place_at, listed_from}
 use Rattle.differences.specs.Differences.{same, none}
 use Rattle.cell_addresses.specs.Addresses.{address_in, holds, AscendFrom}
@@ -34,27 +33,7 @@ Agrees s p t q f a b (suc n) = Agree s p t q f a b × Agrees s p t q f (a + part
 abbrev pub AllAgree : List ℕ → List ℕ → ℕ → Field → ℕ → ℕ → ℕ → Type 0
 AllAgree s t m f a b n = (p q : List (List ℕ)) → Common p q m → Agrees s p t q f a b n
 
--- n RK words, in parts of 6 bytes
-unfoldable pub SameWords : List ℕ → List ℕ → ℕ → ℕ → ℕ → Type 0
-SameWords s t a b zero = Unit {0}
-SameWords s t a b (suc n) = (u32_at s (a + 2) ≡ u32_at t (b + 2)) × SameWords s t (a + 6) (b + 6) n
-
 -- ---- records
--- the record of this type and size at `at` has n cells
-pub record Counted (s : List ℕ) (id at z n : ℕ) : Type 0 where
-  pub count : n ≡ count_of (shape_of id) s at z
-  pub some : 0 < n
-  pub within : at + 4 + z ≤ length s
-
--- the records of this type and size at a and at b have the same cells
-pub record Body (s t : List ℕ) (m id a b z : ℕ) : Type 0 where
-  pub number : ℕ
-  pub here : Counted s id a z number
-  pub there : Counted t id b z number
-  pub row : row_at s a ≡ row_at t b
-  pub column : first_at s a ≡ first_at t b
-  pub fields : AllAgree s t m (field_of (shape_of id)) (a + 8) (b + 8) number
-
 -- d bytes on, past a record with the same cells in both
 pub record Same (s t : List ℕ) (m a b d : ℕ) : Type 0 where
   pub ones : List Cell
@@ -62,11 +41,12 @@ pub record Same (s t : List ℕ) (m a b d : ℕ) : Type 0 where
   pub first : listed_from s (place_at a 0) ≡ ones ++ listed_from s (place_at (a + d) 0)
   pub second : listed_from t (place_at b 0) ≡ twos ++ listed_from t (place_at (b + d) 0)
   pub paired : (p q : List (List ℕ)) → Common p q m → Paired s p t q ones twos
+  pub some : 0 < d
   pub within : a + d ≤ length s
   pub there : b + d ≤ length t
 
-abbrev pub SameIf : List ℕ → List ℕ → ℕ → ℕ → ℕ → ℕ → Type 0
-SameIf s t m a b d = 0 < d → Same s t m a b d
+abbrev pub SameIf : List ℕ → List ℕ → ℕ → ℕ → ℕ → Option ℕ → Type 0
+SameIf s t m a b r = IfSome r (Same s t m a b)
 
 -- ---- what is left after records that say the same tells the same
 pub record Ahead (s t : List ℕ) (m : ℕ) (l k l' k' : List Cell) : Type 0 where

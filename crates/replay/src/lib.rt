@@ -5,86 +5,65 @@
 ghost use Rattle.std.specs.Prelude.{◌≡◌, ◌+◌, ◌-◌, ◌*◌, ◌≤◌, ◌<◌, length};
 ghost use Rattle.correction.specs.Parts.{AimWithin};
 ghost use Rattle.correction.specs.Correction.{stream_after};
-ghost use Rattle.journal.specs.Entries.{count_in, entry_at, entry_in};
-ghost use Rattle.replay_entry.specs.Parts.{entry_aimed, step_of};
-ghost use Rattle.replay_entry.specs.Replay.{replay_in, replay_of, stream_ran, stream_replayed, answer_replayed};
-ghost use Rattle.address_lookup.specs.Table.{Room, Knows};
-ghost use Rattle.journal_claims.specs.Replayed.{Bytes};
-ghost use Rattle.replay.specs.Parts.{Passes, Formed, done_of, run_of, runs_by, turn_of, replayed_by};
+ghost use Rattle.journal.specs.Entries.{count_in, entry_in};
+ghost use Rattle.replay_entry.specs.Parts.{entry_aimed};
+ghost use Rattle.replay_entry.specs.Replay.{replay_in, replay_of, stream_ran, stream_replayed, answer_ran, answer_replayed};
+ghost use Rattle.address_lookup.specs.Known.{Knows};
+ghost use Rattle.replay.specs.Parts.{Passes, Formed, step_in, done_of, runs_by, turn_of};
 
+use address_lookup::Lookup;
 use correction::{Aim, Target};
-use replay_entry::{Replayed, Step};
-use workbook::Checked;
+use journal::Entry;
+use refusal::Refusal;
+use replay_entry::Replayed;
 
+// On a stream with so many strings, whose template has so many sheets; backwards where `back` is true.
 #[derive(Clone, Copy)]
-pub enum Done {
-    Made,
-    Stopped(u8),
+struct Way {
+    unique: u32,
+    sheets: usize,
+    back: bool,
 }
 
+// A journal that has all its entries.
 #[derive(Clone, Copy)]
-pub enum Run {
-    All,
-    Stopped { number: u8, entry: u32 },
+struct Entries<'a> {
+    journal: &'a [u8],
+    count: u32,
+    ghost whole: { 16 + count * 28 ≤ length journal.now },
 }
 
 // ---- one entry
 // The cell that the entry at `at` names: as it was looked up, or else by a walk.
-fn entry_aim(
-    s: &[u8],
-    j: &[u8],
-    at: usize,
-    unique: u32,
-    sheets: usize,
-    keys: &[u64],
-    n: usize,
-    marks: &[u8],
-    fields: &[usize],
-) -> Aim
-    requires { (at + 28 ≤ length j.now) × (length s.now ≤ 16777216) × Room n keys.now marks.now fields.now × Knows s.now keys.now n marks.now fields.now }
-    ensures value { result ≡ entry_aimed unique sheets (entry_in j.now at) s.now }
+#[tactic(auto, using(crate::proofs::Laws::aims_laws))]
+fn entry_aim(s: &[u8], j: &[u8], at: usize, way: Way, lookup: &Lookup) -> Result<Aim, Refusal>
+    requires { (at + 28 ≤ length j.now) × (length s.now ≤ 16777216) × Knows s.now lookup.now }
+    ensures value { result ≡ entry_aimed way.unique way.sheets (entry_in j.now at) s.now }
     ensures aim_within { AimWithin (length s.now) result }
 {
-    match address_lookup::cell_of_entry(s, j, at, unique, sheets, keys, n, marks, fields) {
-        Target::One { kind, field } => Aim::At {
+    match lookup.cell_of_entry(s, j, at, way.unique, way.sheets) {
+        Target::One { kind, field } => Ok(Aim {
             kind,
             field,
-            unique,
-        },
-        Target::None => replay_entry::entry_aim(s, j, at, unique, sheets),
-        Target::Many => replay_entry::entry_aim(s, j, at, unique, sheets),
+            unique: way.unique,
+        }),
+        Target::None | Target::Many => {
+            replay_entry::entry_aim(s, Entry::read(j, at), way.unique, way.sheets)
+        }
     }
 }
 
-// The entry at `at` made again, or undone where `back` is true.
-fn take_entry(
-    s: &mut [u8],
-    j: &[u8],
-    at: usize,
-    unique: u32,
-    sheets: usize,
-    back: bool,
-    keys: &[u64],
-    n: usize,
-    marks: &[u8],
-    fields: &[usize],
-) -> Done
-    requires { (at + 28 ≤ length j.now) × (length s.old ≤ 16777216) × Room n keys.now marks.now fields.now × Knows s.old keys.now n marks.now fields.now }
-    ensures value { result ≡ done_of (step_of back unique sheets (entry_in j.now at) s.old) }
-    ensures s_after { s.new ≡ stream_after s.old (step_of back unique sheets (entry_in j.now at) s.old) }
+// The entry at `at` made again or undone; or the number of its refusal.
+#[tactic(auto, using(crate::proofs::Running::step_laws))]
+fn take_entry(s: &mut [u8], j: &[u8], at: usize, way: Way, lookup: &Lookup) -> Result<(), u8>
+    requires { (at + 28 ≤ length j.now) × (length s.old ≤ 16777216) × Knows s.old lookup.now }
+    ensures value { result ≡ done_of (step_in way.back way.unique way.sheets (entry_in j.now at) s.old) }
+    ensures s_after { s.new ≡ stream_after s.old (step_in way.back way.unique way.sheets (entry_in j.now at) s.old) }
 {
-    let aim = entry_aim(&s[..], j, at, unique, sheets, keys, n, marks, fields);
-    match replay_entry::entry_step(&s[..], j, at, unique, sheets, aim, back) {
-        Step::Stop(number) => Done::Stopped(number),
-        Step::Write {
-            kind,
-            field,
-            number,
-        } => {
-            byte_numbers::store(s, field, value::width_of(kind), number);
-            Done::Made
-        }
-    }
+    let aim = entry_aim(&s[..], j, at, way, lookup);
+    let write = replay_entry::entry_step(&s[..], Entry::read(j, at), aim, way.back)?;
+    byte_numbers::store(s, write.field, value::width_of(write.kind), write.number);
+    Ok(())
 }
 
 // ---- batches
@@ -92,10 +71,7 @@ fn take_entry(
 fn batch(left: u32) -> usize
     ensures { (result ≤ left) × (result ≤ 3072) }
 {
-    if left <= 3072 {
-        return byte_numbers::u32_as_usize(left);
-    }
-    3072
+    left.min(3072) as usize
 }
 
 // Where so many entries stand that come next, after `done` of them.
@@ -104,45 +80,26 @@ fn batch_start(back: bool, count: u32, done: u32, many: usize) -> usize
     ensures { result + many * 28 ≤ 16 + count * 28 }
 {
     if back {
-        return 16 + (byte_numbers::u32_as_usize(count - done) - many) * 28;
+        return 16 + ((count - done) as usize - many) * 28;
     }
-    16 + byte_numbers::u32_as_usize(done) * 28
+    16 + done as usize * 28
 }
 
-// The addresses of the entries that come next, where that is due; n have been looked up before.
-fn refill(
-    s: &[u8],
-    j: &[u8],
-    due: bool,
-    back: bool,
-    count: u32,
-    done: u32,
-    keys: &mut [u64],
-    n: usize,
-    marks: &mut [u8],
-    fields: &mut [usize],
-) -> usize
-    requires { (length s.now ≤ 16777216) × (16 + count * 28 ≤ length j.now) × (done ≤ count) × Room 3072 keys.old marks.old fields.old × (n ≤ 3072) × Knows s.now keys.old n marks.old fields.old }
-    ensures { (result ≤ 3072) × Knows s.now keys.new result marks.new fields.new }
+// The addresses of the entries that come after `done` of them, where those of a batch are done.
+fn refill(s: &[u8], entries: Entries<'_>, back: bool, done: u32, lookup: &mut Lookup)
+    requires { (length s.now ≤ 16777216) × (done ≤ entries.count) × Knows s.now lookup.old }
+    ensures { Knows s.now lookup.new }
 {
-    if due {
-        let many = batch(count - done);
-        let from = batch_start(back, count, done, many);
-        return address_lookup::look_up(s, j, from, many, keys, marks, fields);
+    if done % 3072 == 0 {
+        let many = batch(entries.count - done);
+        let from = batch_start(back, entries.count, done, many);
+        lookup.look_up(s, entries.journal, from, many);
     }
-    n
-}
-
-// How many more entries the batch serves.
-fn fewer(left: u32) -> u32 {
-    if left == 0 {
-        return 3071;
-    }
-    left - 1
 }
 
 // ---- all entries
 // The entry that comes after `done` of them: from the first on, or from the last on where `back` is true.
+#[tactic(auto, using(crate::proofs::Running::turn_laws))]
 fn turn(back: bool, count: u32, done: u32) -> u32
     requires { done < count }
     ensures value { result ≡ turn_of back count done }
@@ -154,132 +111,64 @@ fn turn(back: bool, count: u32, done: u32) -> u32
     done
 }
 
-fn entry_place(i: u32) -> usize
-    ensures { result ≡ entry_at i }
+// It stays out of its callers' frames, which have a check below them: a check and the lookup together would be too deep.
+#[inline(never)]
+#[tactic(auto, using(crate::proofs::Laws::running_start))]
+fn run(s: &mut [u8], entries: Entries<'_>, way: Way) -> Replayed
+    requires { Passes s.old way.unique × Formed entries.journal.now entries.count }
+    ensures value { result ≡ answer_ran entries.entry.count (runs_by way.back way.unique way.sheets entries.entry.journal.now entries.entry.count s.old) }
+    ensures s_after { s.new ≡ stream_ran (runs_by way.back way.unique way.sheets entries.entry.journal.now entries.entry.count s.old) }
 {
-    16 + byte_numbers::u32_as_usize(i) * 28
-}
-
-fn run_with(
-    s: &mut [u8],
-    j: &[u8],
-    count: u32,
-    unique: u32,
-    sheets: usize,
-    back: bool,
-    keys: &mut [u64],
-    marks: &mut [u8],
-    fields: &mut [usize],
-) -> Run
-    requires { (16 + count * 28 ≤ length j.now) × (length s.old ≤ 16777216) × Room 3072 keys.old marks.old fields.old × Passes s.old unique × Formed j.now count }
-    ensures value { result ≡ run_of (runs_by back unique sheets j.now count s.old) }
-    ensures s_after { s.new ≡ stream_ran (runs_by back unique sheets j.now count s.old) }
-{
-    let mut done: u32 = 0;
-    let mut n: usize = 0;
-    let mut left: u32 = 0;
-    while done < count {
-        n = refill(
-            &s[..],
-            j,
-            left == 0,
-            back,
-            count,
-            done,
-            keys,
-            n,
-            marks,
-            fields,
-        );
-        left = fewer(left);
-        let i = turn(back, count, done);
-        match take_entry(
-            s,
-            j,
-            entry_place(i),
-            unique,
-            sheets,
-            back,
-            &keys[..],
-            n,
-            &marks[..],
-            &fields[..],
-        ) {
-            Done::Stopped(number) => {
-                return Run::Stopped { number, entry: i };
-            }
-            Done::Made => {
-                done += 1;
-            }
+    let mut lookup = Lookup::new();
+    for done in 0..entries.count {
+        refill(&s[..], entries, way.back, done, &mut lookup);
+        let entry = turn(way.back, entries.count, done);
+        let at = journal::entry_at(entry);
+        if let Err(number) = take_entry(s, entries.journal, at, way, &lookup) {
+            return Replayed::Stopped { number, entry };
         }
     }
-    Run::All
-}
-
-fn run_batches(s: &mut [u8], j: &[u8], count: u32, unique: u32, sheets: usize, back: bool) -> Run
-    requires { (16 + count * 28 ≤ length j.now) × (length s.old ≤ 16777216) × Passes s.old unique × Formed j.now count }
-    ensures value { result ≡ run_of (runs_by back unique sheets j.now count s.old) }
-    ensures s_after { s.new ≡ stream_ran (runs_by back unique sheets j.now count s.old) }
-{
-    let mut keys = [0u64; 3072];
-    let mut marks = [0u8; 3072];
-    let mut fields = [0usize; 3072];
-    run_with(
-        s,
-        j,
-        count,
-        unique,
-        sheets,
-        back,
-        &mut keys,
-        &mut marks,
-        &mut fields,
-    )
-}
-
-fn replayed_by(count: u32, r: Run) -> Replayed
-    ensures { result ≡ replayed_by count r }
-{
-    match r {
-        Run::All => Replayed::All(count),
-        Run::Stopped { number, entry } => Replayed::Stopped { number, entry },
-    }
-}
-
-// The journal's bytes are bytes.
-fn first_byte(j: &[u8]) -> u8
-    requires { 0 < length j.now }
-    ensures { Bytes j.now }
-{
-    j[0]
+    Replayed::All(entries.count)
 }
 
 // Replay a journal on a stream that passes, with `unique` strings, backwards where `back` is true; `sheets` is how many sheets the template has. Entries before
-// one that is refused stay made. Only this crate and `pair_journal` call it, each after the check. It stays out of its callers' frames, which have a check below them: a check and the batch's tables together would be too deep.
-pub fn replay_in(s: &mut [u8], j: &[u8], unique: u32, sheets: usize, back: bool) -> Replayed
-    requires { (length s.old ≤ 16777216) × Passes s.old unique }
+// one that is refused stay made. Only this crate and `pair_journal` call it, each after the check.
+#[tactic(auto, using(crate::proofs::Running::replay_laws))]
+pub fn replay_in(
+    s: &mut [u8],
+    j: &[u8],
+    unique: u32,
+    sheets: usize,
+    back: bool,
+) -> Result<Replayed, Refusal>
+    requires { Passes s.old unique }
     ensures value { result ≡ answer_replayed (count_in j.now) (replay_in s.old unique sheets j.now back) }
     ensures s_after { s.new ≡ stream_replayed s.old (replay_in s.old unique sheets j.now back) }
 {
-    if journal::journal_fits(j, s.len(), unique) {
-        let _ = first_byte(j);
-        let count = byte_numbers::u32_at(j, 0);
-        let r = run_batches(s, j, count, unique, sheets, back);
-        return replayed_by(count, r);
+    if !journal::journal_fits(j, s.len(), unique) {
+        return Err(Refusal {
+            number: 21,
+            offset: 0,
+        });
     }
-    Replayed::Refused {
-        number: 21,
-        offset: 0,
-    }
+    let entries = Entries {
+        journal: j,
+        count: byte_numbers::u32_at(j, 0),
+    };
+    let way = Way {
+        unique,
+        sheets,
+        back,
+    };
+    Ok(run(s, entries, way))
 }
 
 // Replay a journal on a stream.
-pub fn replay(s: &mut [u8], j: &[u8], back: bool) -> Replayed
+#[tactic(auto, using(crate::proofs::Laws::passes_by), unfolding(replay_entry::specs::Replay::replay_of))]
+pub fn replay(s: &mut [u8], j: &[u8], back: bool) -> Result<Replayed, Refusal>
     ensures value { result ≡ answer_replayed (count_in j.now) (replay_of s.old 0 0 j.now back) }
     ensures s_after { s.new ≡ stream_replayed s.old (replay_of s.old 0 0 j.now back) }
 {
-    match workbook::check_with(&s[..], 0) {
-        Checked::Wrong { number, offset } => Replayed::Refused { number, offset },
-        Checked::Right(g) => replay_in(s, j, g.unique, 0, back),
-    }
+    let globals = workbook::check_with(&s[..], 0)?;
+    replay_in(s, j, globals.unique, 0, back)
 }

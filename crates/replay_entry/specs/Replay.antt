@@ -1,7 +1,9 @@
 -- Replay of a journal, forwards and backwards: one entry after the other, until one is refused.
 -- t is how many sheets the template has, 0 without one; unique is the unique count of strings.
-use Rattle.std.specs.Prelude.{ℕ, zero, suc, ◌+◌, Bool, true, false, List, length}
+use Rattle.std.specs.Prelude.{ℕ, zero, suc, ◌+◌, Bool, true, false, List, Result, Ok, length}
 use Rattle.steps.specs.Choice.{pick}
+use Rattle.refusal.specs.declared.Refusal.{Refusal}
+use Rattle.refusal.specs.Refused.{refuse}
 use Rattle.globals.specs.declared.Globals.{Globals}
 use Rattle.workbook.specs.Check.{checked_of, on_checked}
 use Rattle.correction.specs.Correction.{Correction, refuses, writes, stream_after}
@@ -59,6 +61,6 @@ answer_ran count (all s) = answer.All count
 answer_ran count (stopped n i s) = answer.Stopped n i
 
 -- how many entries the journal has, where all are made
-abbrev pub answer_replayed : ℕ → Replay → Replayed
-answer_replayed count (declined n o) = answer.Refused n o
-answer_replayed count (ran r) = answer_ran count r
+abbrev pub answer_replayed : ℕ → Replay → Result Replayed Refusal
+answer_replayed count (declined n o) = refuse n o
+answer_replayed count (ran r) = Ok (answer_ran count r)

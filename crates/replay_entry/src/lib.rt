@@ -1,232 +1,149 @@
 // One entry of a journal, made again or undone: a number for a value field, or a refusal. The run over all entries is in the crate `replay`.
 #![tactic(auto)]
 
-ghost use Rattle.std.specs.Prelude.{◌≡◌, ◌+◌, ◌≤◌, length};
+ghost use Rattle.std.specs.Prelude.{◌≡◌, ◌+◌, ◌≤◌, length, IfOk};
 ghost use Rattle.value.specs.Value.{width_of};
 ghost use Rattle.correction.specs.Parts.{AimWithin};
-ghost use Rattle.journal.specs.Entries.{entry_in};
-ghost use Rattle.replay_entry.specs.Steps.{first_bytes, entry_plan, holds, passes_in, on_make, on_undo};
-ghost use Rattle.replay_entry.specs.Parts.{entry_aimed, entry_planned, step_of, step_is, StepWithin};
+ghost use Rattle.replay_entry.specs.Steps.{entry_plan, holds, passes_in, on_make, on_undo};
+ghost use Rattle.replay_entry.specs.Parts.{entry_aimed, step_of, step_is};
 
 use correction::Aim;
-use new_value::Plan;
+use journal::Entry;
+use refusal::Refusal;
 use value::Field;
 
-// What an entry comes to: a number for a value field, or a refusal.
+// What an entry writes: a number into a value field.
 #[derive(Clone, Copy)]
-pub enum Step {
-    Write {
-        kind: Field,
-        field: usize,
-        number: u64,
-    },
-    Stop(u8),
+pub struct Write {
+    pub kind: Field,
+    pub field: usize,
+    pub number: u64,
 }
 
-// All entries are made; a refusal before the first of them; or the refusal of one, by its number, with the entry's number in the journal.
-#[derive(Clone, Copy)]
+// All entries are made, so many; or the refusal of one, by its number, with the entry's number in the journal.
+// It is no `Result`: the entries before the one that stopped stay made, so both cases tell how far a replay came. What is refused before the first entry is the `Err` beside it.
+#[derive(Clone, Copy, Debug, PartialEq, Eq)]
 pub enum Replayed {
     All(u32),
-    Refused { number: u8, offset: usize },
     Stopped { number: u8, entry: u32 },
 }
 
-// ---- numbers
-fn first_byte(n: u64) -> u8
-    ensures { result ≡ first_bytes 1 n }
+// The number that a field of this kind takes for the new value.
+#[tactic(auto, using(steps::proofs::Choice::arms), unfolding(crate::specs::Steps::entry_plan))]
+fn entry_plan(entry: Entry, kind: Field, unique: u32) -> Result<u64, Refusal>
+    ensures { result ≡ entry_plan kind entry.kind entry.new unique }
 {
-    (n % 0x100) as u8
-}
-
-fn first_half(n: u64) -> u16
-    ensures { result ≡ first_bytes 2 n }
-{
-    (n % 0x1_0000) as u16
-}
-
-fn first_word(n: u64) -> u32
-    ensures { result ≡ first_bytes 4 n }
-{
-    (n % 0x1_0000_0000) as u32
-}
-
-// ---- one entry
-fn entry_plan(f: Field, kind: u16, new: u64, unique: u32) -> Plan
-    ensures { result ≡ entry_plan f kind new unique }
-{
-    if kind == 0 {
-        return new_value::number_plan(f, new);
+    let byte = (entry.new % 0x100) as u8;
+    match entry.kind {
+        0 => new_value::number_plan(kind, entry.new),
+        1 => new_value::text_plan(kind, (entry.new % 0x1_0000_0000) as u32, unique),
+        2 => new_value::pair_plan(kind, truth_error::is_truth(byte), u64::from(byte)),
+        _ => new_value::pair_plan(kind, truth_error::is_error(byte), u64::from(byte) + 256),
     }
-    if kind == 1 {
-        return new_value::text_plan(f, first_word(new), unique);
-    }
-    let byte = first_byte(new);
-    if kind == 2 {
-        return new_value::pair_plan(
-            f,
-            truth_error::is_truth(byte),
-            byte_numbers::byte_as_u64(byte),
-        );
-    }
-    new_value::pair_plan(
-        f,
-        truth_error::is_error(byte),
-        byte_numbers::byte_as_u64(byte) + 256,
-    )
 }
 
-fn holds_number(s: &[u8], kind: Field, field: usize, width: u16, n: u64) -> bool
+// The field has so many bytes, and they are the number n.
+#[tactic(auto, using(steps::proofs::Choice::picks), unfolding(crate::specs::Steps::holds))]
+fn holds(s: &[u8], kind: Field, field: usize, width: usize, n: u64) -> bool
     requires { field + width_of kind ≤ length s.now }
     ensures { result ≡ holds s.now kind field width n }
 {
-    if byte_numbers::u16_as_usize(width) != value::width_of(kind) {
-        return false;
-    }
-    let number = journal::field_number(s, kind, field);
-    if number == n {
-        return true;
-    }
-    false
+    width == value::width_of(kind) && journal::field_number(s, kind, field) == n
 }
 
 // The check passes the first bytes of n in a field of this kind.
+#[tactic(auto, using(crate::proofs::Laws::pass_laws))]
 fn passes_in(kind: Field, unique: u32, n: u64) -> bool
     ensures { result ≡ passes_in kind unique n }
 {
     match kind {
-        Field::NoField => true,
-        Field::Float => true,
-        Field::RkWord => {
-            if number::means_nothing(first_word(n)) {
-                return false;
-            }
-            true
-        }
-        Field::TextIndex => {
-            if first_word(n) < unique {
-                return true;
-            }
-            false
-        }
-        Field::TruthError => value::truth_error_fits(first_half(n)),
+        Field::NoField | Field::Float => true,
+        Field::RkWord => !number::means_nothing((n % 0x1_0000_0000) as u32),
+        Field::TextIndex => n % 0x1_0000_0000 < u64::from(unique),
+        Field::TruthError => value::truth_error_fits((n % 0x1_0000) as u16),
         Field::StoredResult => value::result_fits(n),
     }
 }
 
-fn on_make(kind: Field, field: usize, there: bool, plan: Plan) -> Step
-    ensures { step_is result ≡ on_make kind field there plan }
+// The entry made again in the field that it names, or the number of its refusal.
+#[tactic(auto, using(crate::proofs::Laws::make_laws))]
+fn make(s: &[u8], entry: Entry, aim: Aim) -> Result<Write, u8>
+    requires { aim.field + width_of aim.kind ≤ length s.now }
+    ensures value { step_is result ≡ on_make aim.kind aim.field (holds s.now aim.kind aim.field entry.width entry.old) (entry_plan aim.kind entry.kind entry.new aim.unique) }
+    ensures within { IfOk result (λ w. w.field + width_of w.kind ≤ length s.now) }
 {
-    match plan {
-        Plan::Refused { number, offset: _ } => {
-            if number == 17 {
-                return Step::Stop(17);
-            }
-            if there {
-                return Step::Stop(number);
-            }
-            Step::Stop(19)
-        }
-        Plan::Put(n) => {
-            if there {
-                return Step::Write {
-                    kind,
-                    field,
-                    number: n,
-                };
-            }
-            Step::Stop(19)
-        }
-    }
-}
-
-fn on_undo(
-    s: &[u8],
-    kind: Field,
-    field: usize,
-    width: u16,
-    old: u64,
-    unique: u32,
-    plan: Plan,
-) -> Step
-    requires { field + width_of kind ≤ length s.now }
-    ensures { step_is result ≡ on_undo kind field (holds s.now kind field width) (passes_in kind unique old) old plan }
-{
-    match plan {
-        Plan::Refused { number, offset: _ } => {
-            if number == 17 {
-                return Step::Stop(17);
-            }
-            Step::Stop(19)
-        }
-        Plan::Put(n) => {
-            if holds_number(s, kind, field, width, n) {
-                if passes_in(kind, unique, old) {
-                    return Step::Write {
-                        kind,
-                        field,
-                        number: old,
-                    };
-                }
-                return Step::Stop(18);
-            }
-            Step::Stop(19)
-        }
-    }
-}
-
-// The cell that the entry at `at` names.
-// Only `replay` calls it, after the check, for an entry that lies in the journal.
-pub fn entry_aim(s: &[u8], j: &[u8], at: usize, unique: u32, sheets: usize) -> Aim
-    requires { (at + 28 ≤ length j.now) × (length s.now ≤ 16777216) }
-    ensures value { result ≡ entry_aimed unique sheets (entry_in j.now at) s.now }
-    ensures aim_within { AimWithin (length s.now) result }
-{
-    let sheet = byte_numbers::u32_at(j, at);
-    let row = byte_numbers::u16_as_u32(byte_numbers::u16_at(j, at + 4));
-    let column = byte_numbers::u16_as_u32(byte_numbers::u16_at(j, at + 6));
-    correction::cell_of_address(s, unique, sheets, sheet, row, column)
-}
-
-// The plan for the entry at `at`, in a field of this kind.
-fn plan_at(j: &[u8], at: usize, kind: Field, unique: u32) -> Plan
-    requires { at + 28 ≤ length j.now }
-    ensures { result ≡ entry_planned kind (entry_in j.now at) unique }
-{
-    let k = byte_numbers::u16_at(j, at + 8);
-    let new = byte_numbers::u64_at(j, at + 20);
-    entry_plan(kind, k, new, unique)
-}
-
-// The entry at `at` made again, or undone where `back` is true; `aim` is the cell that it names.
-// Only `replay` calls it, after the check, for an entry that lies in the journal, with its cell.
-pub fn entry_step(
-    s: &[u8],
-    j: &[u8],
-    at: usize,
-    unique: u32,
-    sheets: usize,
-    aim: Aim,
-    back: bool,
-) -> Step
-    requires { (at + 28 ≤ length j.now) × (aim ≡ entry_aimed unique sheets (entry_in j.now at) s.now) × AimWithin (length s.now) aim }
-    ensures result_value { step_is result ≡ step_of back unique sheets (entry_in j.now at) s.now }
-    ensures step_within { StepWithin (length s.now) result }
-{
-    match aim {
-        Aim::Refused { number, offset: _ } => Step::Stop(number),
-        Aim::At {
+    let Aim {
+        kind,
+        field,
+        unique,
+    } = aim;
+    let there = holds(s, kind, field, entry.width, entry.old);
+    match entry_plan(entry, kind, unique) {
+        Err(Refusal { number: 17, .. }) => Err(17),
+        _ if !there => Err(19),
+        Err(refusal) => Err(refusal.number),
+        Ok(number) => Ok(Write {
             kind,
             field,
-            unique: u,
-        } => {
-            let plan = plan_at(j, at, kind, u);
-            let width = byte_numbers::u16_at(j, at + 10);
-            let old = byte_numbers::u64_at(j, at + 12);
-            if back {
-                return on_undo(s, kind, field, width, old, u, plan);
-            }
-            let there = holds_number(s, kind, field, width, old);
-            on_make(kind, field, there, plan)
-        }
+            number,
+        }),
     }
+}
+
+// The entry undone.
+#[tactic(auto, using(crate::proofs::Laws::undo_laws))]
+fn undo(s: &[u8], entry: Entry, aim: Aim) -> Result<Write, u8>
+    requires { aim.field + width_of aim.kind ≤ length s.now }
+    ensures value { step_is result ≡ on_undo aim.kind aim.field (holds s.now aim.kind aim.field entry.width) (passes_in aim.kind aim.unique entry.old) entry.old (entry_plan aim.kind entry.kind entry.new aim.unique) }
+    ensures within { IfOk result (λ w. w.field + width_of w.kind ≤ length s.now) }
+{
+    let Aim {
+        kind,
+        field,
+        unique,
+    } = aim;
+    match entry_plan(entry, kind, unique) {
+        Err(Refusal { number: 17, .. }) => Err(17),
+        Ok(n) if holds(s, kind, field, entry.width, n) => {
+            if passes_in(kind, unique, entry.old) {
+                return Ok(Write {
+                    kind,
+                    field,
+                    number: entry.old,
+                });
+            }
+            Err(18)
+        }
+        _ => Err(19),
+    }
+}
+
+// The cell that an entry names.
+// Only `replay` calls it, after the check.
+pub fn entry_aim(s: &[u8], entry: Entry, unique: u32, sheets: usize) -> Result<Aim, Refusal>
+    requires { length s.now ≤ 16777216 }
+    ensures value { result ≡ entry_aimed unique sheets entry s.now }
+    ensures aim_within { AimWithin (length s.now) result }
+{
+    correction::cell_of_address(s, unique, sheets, entry.sheet, entry.row, entry.column)
+}
+
+// An entry made again, or undone where `back` is true; `aim` is the cell that it names.
+// Only `replay` calls it, after the check.
+#[tactic(auto, using(crate::proofs::Laws::step_laws))]
+pub fn entry_step(
+    s: &[u8],
+    entry: Entry,
+    aim: Result<Aim, Refusal>,
+    back: bool,
+) -> Result<Write, u8>
+    requires { AimWithin (length s.now) aim }
+    ensures value { step_is result ≡ step_of back entry aim s.now }
+    ensures within { IfOk result (λ w. w.field + width_of w.kind ≤ length s.now) }
+{
+    let aim = aim.map_err(|refusal| refusal.number)?;
+    if back {
+        return undo(s, entry, aim);
+    }
+    make(s, entry, aim)
 }

@@ -1,70 +1,67 @@
 -- The laws that the functions' proofs cite, with their premises as the calls give them. Assumes nothing.
 use Prim.Native.Nat.{ℕ, zero, suc, ◌+◌, ◌-◌, ◌*◌, ◌/◌, ◌^◌, ◌≤◌, ◌<◌}
-use mathlib.Core.Path.{◌≡◌, refl, sym, ap, ◌∙◌, subst, subst⁻¹}
+use mathlib.Core.Path.{◌≡◌, refl, sym, ap, ◌∙◌, subst}
 use mathlib.Core.List.{List, [], ◌∷◌, ◌++◌}
 use mathlib.Core.Bool.{Bool, true, false}
+use Rattle.std.specs.Prelude.{Result, Ok, Err}
 use native.Mathlib.Omega.{arith}
-use native.Mathlib.Nat.{mul-le-mul_right, div-mul-le_self, le-div_iff_mul-le, one-mul, suc-mul, zero-mul, zero-add, suc-add}
+use native.Mathlib.Nat.{mul-le-mul_right, div-mul-le_self, suc-mul, zero-mul, zero-add, suc-add}
 use native.Mathlib.Numerals.{add-one}
 use lib.ListN.{length, set}
 use lib.Seq.{length-sets}
-use lib.Dec.{eqb}
 use mir.Val.{Fits as FitsIn}
 use mir.Syntax.{w64}
 use Rattle.steps.proofs.Choice.{Picks-told, pick_lt, pick_nlt}
 use Rattle.byte_numbers.specs.Bytes.{byte_at, num_at, u16_at}
 use Rattle.record.specs.declared.Header.{Header}
 use Rattle.record.specs.Record.{header_at}
+use Rattle.refusal.specs.declared.Refusal.{Refusal}
 use Rattle.segments.specs.declared.Cursor.{Cursor}
-use Rattle.segments.specs.declared.Moved.{Moved}
 use Rattle.segments.specs.declared.Room.{Room}
-use Rattle.segments.specs.Segments.{Got, got, refused, then, push, list_of, on, continues, segment_of, next_segment, need, width_of, enter, room, items}
+use Rattle.segments.specs.Segments.{Got, got, refused, then, push, list_of, on, segment_of, next_segment, need, width_of, enter, room, items}
 use Rattle.segments.specs.Parts.{Inside, ends, moved, roomed, Passes, Fits, nums, stored}
 use Rattle.segments.proofs.Local.{refused_not, Within, After, next_after, ItemAt, room_item, room_here, within_items}
 
 -- ---- the end of what is read, part by part: x is read first, and m is what a call gave for its end
-module _ {A B : Type 0} (x : Got A) (k : A → Cursor → Got B) (y : Got Unit) (m : Moved) (is : moved m ≡ ends x) where
-  pub ends_to : (d : Cursor) → m ≡ Moved.To d → ((a : A) → y ≡ ends (k a d)) → y ≡ ends (then x k)
+module _ {A B : Type 0} (x : Got A) (k : A → Cursor → Got B) (y : Got Unit) (m : Result Cursor Refusal) (is : moved m ≡ ends x) where
+  pub ends_to : (d : Cursor) → m ≡ Ok d → ((a : A) → y ≡ ends (k a d)) → y ≡ ends (then x k)
   ends_to d q h = by x (sym is ∙ ap moved q)
     where
       by : (x : Got A) → ends x ≡ got tt d → y ≡ ends (then x k)
       by (got a c) e = let i : ◌≡◌ {A = Cursor} d c = cc in subst (λ (z : Cursor). y ≡ ends (k a z)) i (h a)
       by (refused a b) e = absurd (refused_not e)
 
-  pub ends_refused : (a b : ℕ) → m ≡ Moved.Refused a b → y ≡ refused a b → y ≡ ends (then x k)
-  ends_refused a b q h = by x (sym is ∙ ap moved q)
+  pub ends_refused : (e : Refusal) → m ≡ Err e → y ≡ refused e.number e.offset → y ≡ ends (then x k)
+  ends_refused e q h = by x (sym is ∙ ap moved q)
     where
-      by : (x : Got A) → ends x ≡ refused a b → y ≡ ends (then x k)
-      by (got u c) e = absurd (refused_not (sym e))
-      by (refused n o) e = h ∙ sym e
+      by : (x : Got A) → ends x ≡ refused e.number e.offset → y ≡ ends (then x k)
+      by (got u c) i = absurd (refused_not (sym i))
+      by (refused n o) i = h ∙ sym i
+
+pub moved_got : (m : Result Cursor Refusal) (d : Cursor) → moved m ≡ got tt d → m ≡ Ok d
+moved_got (Ok c) d e = let i : ◌≡◌ {A = Cursor} c d = cc in ap Ok i
+moved_got (Err r) d e = absurd (refused_not e)
+
+-- where x ended, whatever was read there, the reading went on
+pub ends_then : {A B : Type 0} (x : Got A) (k : Cursor → Got B) → ends (then x (λ _ d. k d)) ≡ then (ends x) (λ _ d. ends (k d))
+ends_then (got a c) k = refl
+ends_then (refused n o) k = refl
 
 -- it lies within the stream
-pub ends_inside : {A : Type 0} (s : List ℕ) (c d : Cursor) (x : Got A) (m : Moved) → Within s c x → moved m ≡ ends x → m ≡ Moved.To d → Inside s d
+pub ends_inside : {A : Type 0} (s : List ℕ) (c d : Cursor) (x : Got A) (m : Result Cursor Refusal) → Within s c x → moved m ≡ ends x → m ≡ Ok d → Inside s d
 ends_inside s c d (got a e) m h p q = let i : ◌≡◌ {A = Cursor} e d = cc in subst (Inside s) i h.0
 ends_inside s c d (refused n o) m h p q = absurd (refused_not (sym p ∙ ap moved q))
 
-pub items_inside : (n : ℕ) (s : List ℕ) (f : Bool) (w k : ℕ) (c d : Cursor) (m : Moved) → moved m ≡ ends (items n s f w k c) → m ≡ Moved.To d → Inside s c → Inside s d
+pub items_inside : (n : ℕ) (s : List ℕ) (f : Bool) (w k : ℕ) (c d : Cursor) (m : Result Cursor Refusal) → moved m ≡ ends (items n s f w k c) → m ≡ Ok d → Inside s c → Inside s d
 items_inside n s f w k c d m p q h = ends_inside s c d (items n s f w k c) m (within_items n s f w k c h) p q
 
--- ---- a CONTINUE's header
-module _ (s : List ℕ) (p : ℕ) where
-  pub continues_short : length s - p < 4 → false ≡ continues s p
-  unfolding continues
-  continues_short h = pick_lt false false _ _ _ h refl
-
-  pub continues_whole : (x : ℕ) → 4 ≤ length s - p → x ≡ u16_at s p → eqb x 0x003c ≡ continues s p
-  unfolding continues
-  continues_whole x h e = pick_nlt _ false _ _ _ h (ap (λ (y : ℕ). eqb y 0x003c) e)
-
-pub ruleset continues_laws = (continues_short, continues_whole)
-
 -- ---- what a call gave is what the definition goes by
-module _ {A : Type 0} (x : Got Unit) (m : Moved) (k : Unit → Cursor → Got A) (y : Got A) (is : moved m ≡ x) where
-  pub moved_to : (d : Cursor) → m ≡ Moved.To d → y ≡ k tt d → y ≡ then x k
+module _ {A : Type 0} (x : Got Unit) (m : Result Cursor Refusal) (k : Unit → Cursor → Got A) (y : Got A) (is : moved m ≡ x) where
+  pub moved_to : (d : Cursor) → m ≡ Ok d → y ≡ k tt d → y ≡ then x k
   moved_to d q h = rw (← is, q) h
 
-  pub moved_refused : (n o : ℕ) → m ≡ Moved.Refused n o → y ≡ refused n o → y ≡ then x k
-  moved_refused n o q h = rw (← is, q) h
+  pub moved_refused : (e : Refusal) → m ≡ Err e → y ≡ refused e.number e.offset → y ≡ then x k
+  moved_refused e q h = rw (← is, q) h
 
 pub header_is : (n : ℕ) (s : List ℕ) (p : ℕ) (r x : Header) (y : Got Unit) → r ≡ header_at s p → r ≡ x → y ≡ segment_of n p x → y ≡ segment_of n p (header_at s p)
 header_is n s p r x y e q h = rw (← e, q) h
@@ -83,7 +80,7 @@ module _ (n : ℕ) (s : List ℕ) (f : Bool) (w : ℕ) (c : Cursor) (x : Got ℕ
 pub ruleset segment_laws = (Picks-told, header_is, moved_to, moved_refused, need_read, enter_flagged, enter_plain)
 
 -- ---- where the next segment is
-module _ (n : ℕ) (s : List ℕ) (c d : Cursor) (m : Moved) (is : moved m ≡ next_segment n s c) (q : m ≡ Moved.To d) where
+module _ (n : ℕ) (s : List ℕ) (c d : Cursor) (m : Result Cursor Refusal) (is : moved m ≡ next_segment n s c) (q : m ≡ Ok d) where
   pub next_is : After s c d
   next_is = next_after n s c tt d (sym is ∙ ap moved q)
 
@@ -162,64 +159,51 @@ module _ (n : ℕ) (s : List ℕ) (f : Bool) where
       ∙ ap (λ (l : ℕ). append (nums s v k d.at) (items n s f v (m - k) (on d l))) (sym fit.bytes)
 
 -- ---- what a call of `room_for` gave
-module _ (n : ℕ) (s : List ℕ) (f : Bool) (w : ℕ) (c : Cursor) (r : Room) (is : roomed r ≡ room n s f w c) where
-  module _ (v : ℕ) (d : Cursor) (inside : Inside s c) (h : r ≡ Room.At v d) where
-    item : ItemAt s c w v d
-    item = room_item n s f w c v d inside (sym is ∙ ap roomed h)
+module _ (n : ℕ) (s : List ℕ) (f : Bool) (w : ℕ) (c : Cursor) (r : Result Room Refusal) (is : roomed r ≡ room n s f w c) where
+  module _ (y : Room) (inside : Inside s c) (h : r ≡ Ok y) where
+    pub item : ItemAt s c w y.width y.place
+    item = room_item n s f w c y.width y.place inside (sym is ∙ ap roomed h)
 
-    pub item_low : d.at ≤ d.end
+    pub item_low : y.place.at ≤ y.place.end
     item_low = item.inside.0
 
-    pub item_here : v ≤ d.end - d.at
+    pub item_here : y.width ≤ y.place.end - y.place.at
     item_here = item.here
 
-    pub item_some : 1 ≤ w → 1 ≤ v
+    pub item_some : 1 ≤ w → 1 ≤ y.width
     item_some = item.some
 
-    pub item_small : w ≤ 2 → v ≤ 2
+    pub item_small : w ≤ 2 → y.width ≤ 2
     item_small = item.small
 
-    pub item_inside : Inside s d
+    pub item_inside : Inside s y.place
     item_inside = item.inside
 
-    pub item_on : (b : ℕ) → b ≤ d.end - d.at → Inside s (on d b)
-    item_on b i = let y = item in (omega arith, omega arith)
+    pub item_on : (b : ℕ) → b ≤ y.place.end - y.place.at → Inside s (on y.place b)
+    item_on b i = let z = item in (omega arith, omega arith)
 
-    pub item_add : (m k b : ℕ) → Fits (d.end - d.at) v m k b → length s < 2 ^ 64 → FitsIn w64 (d.at + b)
-    item_add m k b fit l = let y = item in let i = fit.fit in omega arith
+    pub item_add : (m k b : ℕ) → Fits (y.place.end - y.place.at) y.width m k b → length s < 2 ^ 64 → FitsIn w64 (y.place.at + b)
+    item_add m k b fit l = let z = item in let i = fit.fit in omega arith
 
     -- a turn of the skip: from room to room
-    pub skip_turn : (x : Got Unit) (m k b : ℕ) → x ≡ ends (items n s f w m c) → 1 ≤ w → Fits (d.end - d.at) v m k b → x ≡ ends (items n s f v (m - k) (on d b))
-    skip_turn x m k b inv i fit = inv ∙ ap ends (items_turn n s f w m c v d k b i inside (sym is ∙ ap roomed h) fit) ∙ ends_append (nums s v k d.at) (items n s f v (m - k) (on d b))
+    pub skip_turn : (x : Got Unit) (m k b : ℕ) → x ≡ ends (items n s f w m c) → 1 ≤ w → Fits (y.place.end - y.place.at) y.width m k b → x ≡ ends (items n s f y.width (m - k) (on y.place b))
+    skip_turn x m k b inv i fit =
+        inv ∙ ap ends (items_turn n s f w m c y.width y.place k b i inside (sym is ∙ ap roomed h) fit) ∙ ends_append (nums s y.width k y.place.at) (items n s f y.width (m - k) (on y.place b))
 
-  pub skip_refused : (x : Got Unit) (m a b : ℕ) → x ≡ ends (items n s f w m c) → (m ≡ 0 → ⊥) → r ≡ Room.Refused a b → refused a b ≡ x
-  skip_refused x m a b inv i h =
+  pub skip_refused : (x : Got Unit) (m : ℕ) (e : Refusal) → x ≡ ends (items n s f w m c) → 0 < m → r ≡ Err e → refused e.number e.offset ≡ x
+  skip_refused x m e inv i h =
       let m-is : m ≡ suc (m - 1) = omega arith in
-      sym (inv ∙ ap (λ (l : ℕ). ends (items n s f w l c)) m-is ∙ ap ends (items_refused n s f w (m - 1) c a b (sym is ∙ ap roomed h)))
+      sym (inv ∙ ap (λ (l : ℕ). ends (items n s f w l c)) m-is ∙ ap ends (items_refused n s f w (m - 1) c e.number e.offset (sym is ∙ ap roomed h)))
 
 module _ (n : ℕ) (s : List ℕ) (f : Bool) (w m : ℕ) (c : Cursor) where
-  pub skip_end : (x : Got Unit) → x ≡ ends (items n s f w m c) → m ≡ 0 → got tt c ≡ x
+  pub skip_end : (x : Got Unit) → x ≡ ends (items n s f w m c) → m ≤ 0 → got tt c ≡ x
   unfolding items
-  skip_end x inv i = sym (inv ∙ ap (λ (l : ℕ). ends (items n s f w l c)) i)
+  skip_end x inv i = sym (inv ∙ ap (λ (l : ℕ). ends (items n s f w l c)) (let e : m ≡ 0 = omega arith in e))
 
 -- ---- what fits
 module _ (here w most : ℕ) (is : most ≡ here / w) where
   pub fit_all : (m : ℕ) → m ≤ most → m * w ≤ here
   fit_all m h = let a : m * w ≤ here / w * w = mul-le-mul_right w (rw is at h) in let b = div-mul-le_self here w in omega arith
-
-  pub fit_most : most * w ≤ here
-  fit_most = subst⁻¹ (λ (k : ℕ). k * w ≤ here) is (div-mul-le_self here w)
-
-  pub fit_some : 1 ≤ w → w ≤ here → 1 ≤ most
-  fit_some i j = subst⁻¹ (λ (k : ℕ). 1 ≤ k) is ((le-div_iff_mul-le {k = w} {x = 1} {y = here} i).1 (let e = one-mul w in omega arith))
-
-  pub fit_all_fits : (m : ℕ) → m ≤ most → FitsIn w64 here → FitsIn w64 (m * w)
-  fit_all_fits m h i = let j = fit_all m h in omega arith
-
-  pub fit_most_fits : FitsIn w64 here → FitsIn w64 (most * w)
-  fit_most_fits i = let j = fit_most in omega arith
-
-pub ruleset fit_laws = (fit_all, fit_most, fit_some, fit_all_fits, fit_most_fits)
 
 -- all items stand in this segment
 module _ (s : List ℕ) (w m : ℕ) (c : Cursor) (most : ℕ) (is : most ≡ (c.end - c.at) / w) (h : m ≤ most) where
@@ -229,14 +213,7 @@ module _ (s : List ℕ) (w m : ℕ) (c : Cursor) (most : ℕ) (is : most ≡ (c.
       let e : m ≡ m + 0 = omega arith in
       sym (ap (λ (l : ℕ). ends (items n s f w l c)) e ∙ ap ends (items_fit n s f w m 0 c i (fit_all (c.end - c.at) w most is m h)) ∙ ends_append (nums s w m c.at) (got [] (on c (m * w))))
 
-  module _ (inside : Inside s c) (l : length s < 2 ^ 64) where
-    pub skip_mul : FitsIn w64 (m * w)
-    skip_mul = let i = fit_all (c.end - c.at) w most is m h in omega arith
-
-    pub skip_add : FitsIn w64 (c.at + m * w)
-    skip_add = let i = fit_all (c.end - c.at) w most is m h in omega arith
-
-pub ruleset skip_laws = (item_low, item_here, item_some, item_inside, item_on, item_add, skip_turn, skip_refused, skip_end, skip_all, skip_mul, skip_add)
+pub ruleset skip_laws = (item_low, item_here, item_some, item_inside, item_on, item_add, skip_turn, skip_refused, skip_end, skip_all)
 
 -- ---- characters: the fact that both widths share
 module _ (s : List ℕ) (w p x : ℕ) where
@@ -249,27 +226,25 @@ module _ (s : List ℕ) (w p x : ℕ) where
 
 pub ruleset unit_laws = (unit_one, unit_two)
 
--- a character is stored, and the rest are to come
-module _ (s : List ℕ) (w k p j : ℕ) (b x : List ℕ) (inv : x ≡ stored b j (nums s w k p)) where
-  pub copy_step : (u : ℕ) → 0 < k → u ≡ num_at s w p → x ≡ stored (set b j u) (j + 1) (nums s w (k - 1) (p + w))
-  unfolding nums stored
-  copy_step u h e =
-      let k-is : k ≡ suc (k - 1) = omega arith in
-      inv ∙ ap (λ (m : ℕ). stored b j (nums s w m p)) k-is ∙ ap (λ (m : ℕ). stored (set b j m) (suc j) (nums s w (k - 1) (p + w))) (sym e) ∙ ap (λ (m : ℕ). stored (set b j u) m (nums s w (k - 1) (p + w))) (sym (add-one j))
+-- one more character is stored, narrow or of any width
+pub stored_more : (s : List ℕ) (w k p : ℕ) (b : List ℕ) (j : ℕ) → stored b j (nums s w (k + 1) p) ≡ set (stored b j (nums s w k p)) (j + k) (num_at s w (p + k * w))
+unfolding nums stored
+stored_more s w zero p b j =
+    let e : p + 0 * w ≡ p = omega (arith, zero-mul w) in
+    let f : j + 0 ≡ j = omega arith in
+    rw (e, f) refl
+stored_more s w (suc k) p b j =
+    let e : p + w + k * w ≡ p + suc k * w = omega (arith, suc-mul k w) in
+    let f : suc j + k ≡ j + suc k = omega arith in
+    let g : k + 1 ≡ suc k = omega arith in
+    ap (λ (l : ℕ). stored b j (nums s w l p)) (add-one (suc k)) ∙ ap (λ (l : ℕ). stored (set b j (num_at s w p)) (suc j) (nums s w l (p + w))) (sym g)
+    ∙ stored_more s w k (p + w) (set b j (num_at s w p)) (suc j) ∙ rw (e, f) refl
 
-  pub copy_end : k ≤ 0 → b ≡ x
-  unfolding nums stored
-  copy_end h = let k-is : k ≡ 0 = omega arith in sym (inv ∙ ap (λ (m : ℕ). stored b j (nums s w m p)) k-is)
-
-module _ (w k p m : ℕ) (h : 0 < k) (i : p + k * w ≤ m) where
-  product : k * w ≡ (k - 1) * w + w
-  product = let e : k ≡ suc (k - 1) = omega arith in ap (λ (l : ℕ). l * w) e ∙ suc-mul (k - 1) w
-
-  pub copy_within : p + w ≤ m
-  copy_within = let e = product in omega arith
-
-  pub copy_left : p + w + (k - 1) * w ≤ m
-  copy_left = let e = product in omega arith
+pub stored_byte : (s : List ℕ) (k p : ℕ) (b : List ℕ) (j : ℕ) → stored b j (nums s 1 (k + 1) p) ≡ set (stored b j (nums s 1 k p)) (j + k) (byte_at s (p + k))
+unfolding num_at
+stored_byte s k p b j =
+    let e : num_at s 1 (p + k * 1) ≡ byte_at s (p + k) = (let f : p + k * 1 ≡ p + k = omega arith in rw f (omega arith)) in
+    stored_more s 1 k p b j ∙ ap (set (stored b j (nums s 1 k p)) (j + k)) e
 
 -- ---- the characters of a string, segment by segment
 stored_append : (l : List ℕ) (i : ℕ) (xs ys : List ℕ) → stored l i (xs ++ ys) ≡ stored (stored l i xs) (i + length xs) ys
@@ -305,26 +280,26 @@ module _ (n : ℕ) (s : List ℕ) (w m j : ℕ) (c : Cursor) where
       sym (inv ∙ ap (λ (l : ℕ). stored a j (list_of (items n s true w l c))) e) ∙ ap (λ (l : ℕ). stored x 0 (list_of (items n s true v l d))) f
 
 module _ (n : ℕ) (s : List ℕ) (w m j : ℕ) (c : Cursor) (passes : Passes (items n s true w (m - j) c)) where
-  module _ (r : Room) (is : roomed r ≡ room n s true w c) where
-    pub chars_refused : (u v : ℕ) → j < m → r ≡ Room.Refused u v → ⊥
-    chars_refused u v i h =
+  module _ (r : Result Room Refusal) (is : roomed r ≡ room n s true w c) where
+    pub chars_refused : (a : Refusal) → j < m → r ≡ Err a → ⊥
+    chars_refused a i h =
         let e : m - j ≡ suc (m - j - 1) = omega arith in
-        subst Passes (ap (λ (l : ℕ). items n s true w l c) e ∙ items_refused n s true w (m - j - 1) c u v (sym is ∙ ap roomed h)) passes
+        subst Passes (ap (λ (l : ℕ). items n s true w l c) e ∙ items_refused n s true w (m - j - 1) c a.number a.offset (sym is ∙ ap roomed h)) passes
 
-    module _ (v : ℕ) (d : Cursor) (inside : Inside s c) (h : r ≡ Room.At v d) (some : 1 ≤ w) (k b : ℕ) (fit : Fits (d.end - d.at) v (m - j) k b) where
-      turn : items n s true w (m - j) c ≡ append (nums s v k d.at) (items n s true v (m - (j + k)) (on d b))
+    module _ (y : Room) (inside : Inside s c) (h : r ≡ Ok y) (some : 1 ≤ w) (k b : ℕ) (fit : Fits (y.place.end - y.place.at) y.width (m - j) k b) where
+      turn : items n s true w (m - j) c ≡ append (nums s y.width k y.place.at) (items n s true y.width (m - (j + k)) (on y.place b))
       turn =
           let e : m - j - k ≡ m - (j + k) = omega arith in
-          items_turn n s true w (m - j) c v d k b some inside (sym is ∙ ap roomed h) fit ∙ ap (λ (l : ℕ). append (nums s v k d.at) (items n s true v l (on d b))) e
+          items_turn n s true w (m - j) c y.width y.place k b some inside (sym is ∙ ap roomed h) fit ∙ ap (λ (l : ℕ). append (nums s y.width k y.place.at) (items n s true y.width l (on y.place b))) e
 
-      pub chars_passes : Passes (items n s true v (m - (j + k)) (on d b))
-      chars_passes = passes_append (nums s v k d.at) (items n s true v (m - (j + k)) (on d b)) (subst Passes turn passes)
+      pub chars_passes : Passes (items n s true y.width (m - (j + k)) (on y.place b))
+      chars_passes = passes_append (nums s y.width k y.place.at) (items n s true y.width (m - (j + k)) (on y.place b)) (subst Passes turn passes)
 
-      pub chars_turn : (a a' x : List ℕ) → x ≡ stored a j (list_of (items n s true w (m - j) c)) → a' ≡ stored a j (nums s v k d.at) → x ≡ stored a' (j + k) (list_of (items n s true v (m - (j + k)) (on d b)))
+      pub chars_turn : (a a' x : List ℕ) → x ≡ stored a j (list_of (items n s true w (m - j) c)) → a' ≡ stored a j (nums s y.width k y.place.at) → x ≡ stored a' (j + k) (list_of (items n s true y.width (m - (j + k)) (on y.place b)))
       chars_turn a a' x inv e =
-          let rest = items n s true v (m - (j + k)) (on d b) in
-          inv ∙ ap (λ (g : Got (List ℕ)). stored a j (list_of g)) turn ∙ ap (stored a j) (list_append (nums s v k d.at) rest (subst Passes turn passes)) ∙ stored_append a j (nums s v k d.at) (list_of rest)
-          ∙ ap (λ (l : ℕ). stored (stored a j (nums s v k d.at)) (j + l) (list_of rest)) (nums_length s v k d.at)
+          let rest = items n s true y.width (m - (j + k)) (on y.place b) in
+          inv ∙ ap (λ (g : Got (List ℕ)). stored a j (list_of g)) turn ∙ ap (stored a j) (list_append (nums s y.width k y.place.at) rest (subst Passes turn passes)) ∙ stored_append a j (nums s y.width k y.place.at) (list_of rest)
+          ∙ ap (λ (l : ℕ). stored (stored a j (nums s y.width k y.place.at)) (j + l) (list_of rest)) (nums_length s y.width k y.place.at)
           ∙ ap (λ (l : List ℕ). stored l (j + k) (list_of rest)) (sym e)
 
 module _ (here v k b j m : ℕ) (fit : Fits here v (m - j) k b) (less : j < m) where

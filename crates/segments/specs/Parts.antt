@@ -1,9 +1,9 @@
 -- What the contracts of the inner functions speak of.
-use Rattle.std.specs.Prelude.{ℕ, zero, suc, ◌+◌, ◌*◌, ◌≤◌, ◌≡◌, List, [], ◌∷◌, length}
+use Rattle.std.specs.Prelude.{ℕ, zero, suc, ◌+◌, ◌*◌, ◌≤◌, ◌≡◌, List, [], ◌∷◌, length, Result, Ok, Err}
 use Rattle.std.proofs.lemmas.List.Edits.{sets}
 use Rattle.byte_numbers.specs.Bytes.{num_at}
+use Rattle.refusal.specs.declared.Refusal.{Refusal}
 use Rattle.segments.specs.declared.Cursor.{Cursor}
-use Rattle.segments.specs.declared.Moved.{Moved}
 use Rattle.segments.specs.declared.Room.{Room}
 use Rattle.segments.specs.Segments.{Got, got, refused}
 
@@ -17,13 +17,13 @@ ends (got a c) = got tt c
 ends (refused n o) = refused n o
 
 -- the answers of the functions in the definitions' terms
-abbrev pub moved : Moved → Got Unit
-moved (Moved.To c) = got tt c
-moved (Moved.Refused n o) = refused n o
+abbrev pub moved : Result Cursor Refusal → Got Unit
+moved (Ok c) = got tt c
+moved (Err r) = refused r.number r.offset
 
-abbrev pub roomed : Room → Got ℕ
-roomed (Room.At w c) = got w c
-roomed (Room.Refused n o) = refused n o
+abbrev pub roomed : Result Room Refusal → Got ℕ
+roomed (Ok r) = got r.width r.place
+roomed (Err r) = refused r.number r.offset
 
 -- nothing was refused
 abbrev pub Passes : {A : Type 0} → Got A → Type 0

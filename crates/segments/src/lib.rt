@@ -8,8 +8,10 @@ ghost use Rattle.segments.specs.Segments.{list_of, continues, next_segment, fill
 ghost use Rattle.segments.specs.Parts.{Inside, ends, moved, roomed, Passes, Fits, nums, stored};
 
 use record::Header;
+use refusal::Refusal;
 
 // A place in a segment: the segment's header, the next byte, the segment's end.
+// The bytes and the number of a break stay parameters beside it: a struct of all three would have to say of each answer that bytes and number are the same.
 #[derive(Clone, Copy)]
 pub struct Cursor {
     pub seg: usize,
@@ -17,18 +19,11 @@ pub struct Cursor {
     pub end: usize,
 }
 
-// Where the reading has come to.
-#[derive(Clone, Copy)]
-pub enum Moved {
-    To(Cursor),
-    Refused { number: u8, offset: usize },
-}
-
 // An item's width, and where it stands.
 #[derive(Clone, Copy)]
-pub enum Room {
-    At { width: usize, place: Cursor },
-    Refused { number: u8, offset: usize },
+pub struct Room {
+    pub width: usize,
+    pub place: Cursor,
 }
 
 // How many items are taken at once, and their bytes.
@@ -42,126 +37,101 @@ pub struct Fit {
 pub fn width_of(flags: u8) -> usize
     ensures { result ≡ width_of flags }
 {
-    1 + (flags & 1) as usize
+    1 + usize::from(flags & 1)
 }
 
 // Whether a whole header of a CONTINUE stands at `p`.
+#[tactic(auto, unfolding(crate::specs::Segments::continues, steps::specs::Choice::pick))]
 pub fn continue_at(s: &[u8], p: usize) -> bool
     requires { p ≤ length s.now }
     ensures { result ≡ continues s.now p }
 {
-    if s.len() - p < 4 {
-        return false;
-    }
-    byte_numbers::u16_at(s, p) == 0x003c
+    4 <= s.len() - p && byte_numbers::u16_at(s, p) == 0x003c
 }
 
 // The CONTINUE that is needed after this segment.
-pub fn next_segment(s: &[u8], number: u8, c: Cursor) -> Moved
+#[tactic(auto, using(crate::proofs::Laws::segment_laws), unfolding(crate::specs::Segments::next_segment))]
+pub fn next_segment(s: &[u8], number: u8, c: Cursor) -> Result<Cursor, Refusal>
     requires { Inside s.now c }
     ensures { moved result ≡ next_segment number s.now c }
 {
     let p = c.end;
-    if continue_at(s, p) {
-        match record::header_at(s, p) {
-            Header::Record { kind: _, size, end } => {
-                if size == 0 {
-                    return Moved::Refused { number, offset: p };
-                }
-                return Moved::To(Cursor {
-                    seg: p,
-                    at: p + 4,
-                    end,
-                });
-            }
-            Header::Cut => {
-                return Moved::Refused {
-                    number: 2,
-                    offset: p,
-                };
-            }
-            Header::End => {
-                return Moved::Refused {
-                    number: 2,
-                    offset: p,
-                };
-            }
-        }
+    if !continue_at(s, p) {
+        return Err(Refusal {
+            number,
+            offset: c.seg,
+        });
     }
-    Moved::Refused {
-        number,
-        offset: c.seg,
+    match record::header_at(s, p) {
+        Header::Record { kind: _, size, end } => {
+            if size == 0 {
+                return Err(Refusal { number, offset: p });
+            }
+            Ok(Cursor {
+                seg: p,
+                at: p + 4,
+                end,
+            })
+        }
+        Header::Cut | Header::End => Err(Refusal {
+            number: 2,
+            offset: p,
+        }),
     }
 }
 
 // The cursor itself, where what was read up to it fills its segments.
-pub fn ends_with_segments(s: &[u8], number: u8, c: Cursor) -> Moved
+#[tactic(auto, using(crate::proofs::Laws::segment_laws), unfolding(crate::specs::Segments::filled))]
+pub fn ends_with_segments(s: &[u8], number: u8, c: Cursor) -> Result<Cursor, Refusal>
     requires { Inside s.now c }
     ensures { moved result ≡ filled number s.now c }
 {
     if c.at != c.end {
-        return Moved::Refused {
+        return Err(Refusal {
             number,
             offset: c.seg,
-        };
+        });
     }
-    let end = c.end;
-    if continue_at(s, end) {
-        match next_segment(s, number, c) {
-            Moved::Refused { number, offset } => {
-                return Moved::Refused { number, offset };
-            }
-            Moved::To(d) => {
-                return Moved::Refused {
-                    number,
-                    offset: d.seg,
-                };
-            }
-        }
+    if continue_at(s, c.end) {
+        let d = next_segment(s, number, c)?;
+        return Err(Refusal {
+            number,
+            offset: d.seg,
+        });
     }
-    Moved::To(c)
+    Ok(c)
 }
 
-// Room for w bytes in this segment.
-fn need_here(number: u8, w: usize, c: Cursor) -> Room
-    requires { c.at ≤ c.end }
-    ensures { roomed result ≡ need number w c }
+// Room for `width` bytes in this segment.
+#[tactic(auto, unfolding(crate::specs::Segments::need, steps::specs::Choice::pick))]
+fn need_here(number: u8, width: usize, place: Cursor) -> Result<Room, Refusal>
+    requires { place.at ≤ place.end }
+    ensures { roomed result ≡ need number width place }
 {
-    if c.end - c.at < w {
-        return Room::Refused {
+    if place.end - place.at < width {
+        return Err(Refusal {
             number,
-            offset: c.seg,
-        };
+            offset: place.seg,
+        });
     }
-    Room::At { width: w, place: c }
+    Ok(Room { width, place })
 }
 
 // Room for an item of w bytes, in the next segment where this one has ended.
-pub fn room_for(s: &[u8], number: u8, flagged: bool, w: usize, c: Cursor) -> Room
+#[tactic(auto, using(crate::proofs::Laws::segment_laws, crate::proofs::Laws::next_laws), unfolding(crate::specs::Segments::room))]
+pub fn room_for(s: &[u8], number: u8, flagged: bool, w: usize, c: Cursor) -> Result<Room, Refusal>
     requires { Inside s.now c }
     ensures { roomed result ≡ room number s.now flagged w c }
 {
     if c.at != c.end {
         return need_here(number, w, c);
     }
-    match next_segment(s, number, c) {
-        Moved::Refused { number, offset } => Room::Refused { number, offset },
-        Moved::To(d) => {
-            if flagged {
-                let at = d.at;
-                return need_here(
-                    number,
-                    width_of(s[at]),
-                    Cursor {
-                        seg: d.seg,
-                        at: at + 1,
-                        end: d.end,
-                    },
-                );
-            }
-            need_here(number, w, d)
-        }
+    let d = next_segment(s, number, c)?;
+    if flagged {
+        let at = d.at;
+        return need_here(number, width_of(s[at]), Cursor { at: at + 1, ..d });
     }
+    need_here(number, w, d)
 }
 
 // How many items of w bytes `here` bytes hold. The widths that occur are divided by without a division.
@@ -169,16 +139,12 @@ fn most_of(here: usize, w: usize) -> usize
     requires { 1 ≤ w }
     ensures { result ≡ here / w }
 {
-    if w == 1 {
-        return here;
+    match w {
+        1 => here,
+        2 => here / 2,
+        4 => here / 4,
+        _ => here / w,
     }
-    if w == 2 {
-        return here / 2;
-    }
-    if w == 4 {
-        return here / 4;
-    }
-    here / w
 }
 
 // As many of n items of w bytes as `here` bytes hold.
@@ -186,88 +152,93 @@ pub fn fit_items(here: usize, w: usize, n: usize) -> Fit
     requires { (1 ≤ w) × (w ≤ here) × (1 ≤ n) }
     ensures { Fits here w n result.count result.bytes }
 {
-    let most = most_of(here, w);
-    if n <= most {
-        return Fit {
-            count: n,
-            bytes: n * w,
-        };
-    }
+    let count = n.min(most_of(here, w));
     Fit {
-        count: most,
-        bytes: most * w,
+        count,
+        bytes: count * w,
     }
 }
 
 // Past n items of w bytes each, by what each segment holds of them. With its two callers it stays a function by itself, and `skip_items` a short one.
-pub fn skip_over(s: &[u8], number: u8, flagged: bool, w: usize, n: usize, c: Cursor) -> Moved
+#[tactic(auto, using(crate::proofs::Laws::skip_laws))]
+pub fn skip_over(
+    s: &[u8],
+    number: u8,
+    flagged: bool,
+    w: usize,
+    n: usize,
+    c: Cursor,
+) -> Result<Cursor, Refusal>
     requires { Inside s.now c × (1 ≤ w) }
     ensures { moved result ≡ ends (items number s.now flagged w n c) }
 {
     let mut size = w;
     let mut left = n;
     let mut d = c;
-    loop {
-        if left == 0 {
-            return Moved::To(d);
-        }
-        match room_for(s, number, flagged, size, d) {
-            Room::Refused { number, offset } => {
-                return Moved::Refused { number, offset };
-            }
-            Room::At { width, place } => {
-                let k = fit_items(place.end - place.at, width, left);
-                d = Cursor {
-                    seg: place.seg,
-                    at: place.at + k.bytes,
-                    end: place.end,
-                };
-                size = width;
-                left = left - k.count;
-            }
-        }
+    // Each turn takes as many as its segment holds, so no `for` counts them.
+    while 0 < left {
+        let Room { width, place } = room_for(s, number, flagged, size, d)?;
+        let k = fit_items(place.end - place.at, width, left);
+        d = Cursor {
+            at: place.at + k.bytes,
+            ..place
+        };
+        size = width;
+        left -= k.count;
     }
+    Ok(d)
 }
 
 // Past n items of w bytes each: most often they all stand in this segment.
-pub fn skip_items(s: &[u8], number: u8, flagged: bool, w: usize, n: usize, c: Cursor) -> Moved
+#[tactic(auto, using(crate::proofs::Laws::skip_laws))]
+pub fn skip_items(
+    s: &[u8],
+    number: u8,
+    flagged: bool,
+    w: usize,
+    n: usize,
+    c: Cursor,
+) -> Result<Cursor, Refusal>
     requires { Inside s.now c × (1 ≤ w) }
     ensures { moved result ≡ ends (items number s.now flagged w n c) }
 {
     if n <= most_of(c.end - c.at, w) {
-        return Moved::To(Cursor {
-            seg: c.seg,
+        return Ok(Cursor {
             at: c.at + n * w,
-            end: c.end,
+            ..c
         });
     }
     skip_over(s, number, flagged, w, n, c)
 }
 
 // The character of w bytes at p.
+#[tactic(auto, using(crate::proofs::Laws::unit_laws))]
 pub fn unit_at(s: &[u8], w: usize, p: usize) -> u16
     requires { (1 ≤ w) × (w ≤ 2) × (p + w ≤ length s.now) }
     ensures { result ≡ num_at s.now w p }
 {
     if w == 1 {
-        return byte_numbers::byte_as_u16(s[p]);
+        return u16::from(s[p]);
     }
     byte_numbers::u16_at(s, p)
 }
 
 // k characters of w bytes at p, into the buffer from j on.
+#[tactic(auto, using(crate::proofs::Laws::stored_byte, crate::proofs::Laws::stored_more), unfolding(crate::specs::Parts::stored, crate::specs::Parts::nums))]
 fn copy_units(s: &[u8], w: usize, k: usize, p: usize, buf: &mut [u16], j: usize)
     requires { (1 ≤ w) × (w ≤ 2) × (p + k * w ≤ length s.now) × (j + k ≤ length buf.old) }
     ensures { buf.new ≡ stored buf.old j (nums s.now w k p) }
 {
-    let mut left = k;
-    let mut from = p;
-    let mut to = j;
-    while 0 < left {
-        buf[to] = unit_at(s, w, from);
-        from += w;
-        to += 1;
-        left -= 1;
+    if w == 1 {
+        let mut to = j;
+        for byte in &s[p..p + k] {
+            buf[to] = u16::from(*byte);
+            to += 1;
+        }
+    } else {
+        for i in 0..k {
+            buf[j + i] = byte_numbers::u16_at(s, p + i * 2);
+        }
     }
 }
 
@@ -282,7 +253,8 @@ fn copy_here(s: &[u8], w: usize, n: usize, c: Cursor, buf: &mut [u16], j: usize)
     k
 }
 
-// The n characters at c, none of them refused, into the buffer.
+// The n characters at c, none of them refused, into the buffer. Each turn takes as many as its segment holds, so no `for` counts them.
+#[tactic(auto, using(crate::proofs::Laws::chars_laws))]
 pub fn copy_chars(s: &[u8], number: u8, w: usize, n: usize, c: Cursor, buf: &mut [u16])
     requires { Inside s.now c × (1 ≤ w) × (w ≤ 2) × (n ≤ length buf.old) × Passes (items number s.now true w n c) }
     ensures { buf.new ≡ stored buf.old 0 (list_of (items number s.now true w n c)) }
@@ -291,23 +263,15 @@ pub fn copy_chars(s: &[u8], number: u8, w: usize, n: usize, c: Cursor, buf: &mut
     let mut d = c;
     let mut j: usize = 0;
     while j < n {
-        match room_for(s, number, true, v, d) {
-            Room::Refused {
-                number: _,
-                offset: _,
-            } => {
-                return;
-            }
-            Room::At { width, place } => {
-                let k = copy_here(s, width, n - j, place, buf, j);
-                d = Cursor {
-                    seg: place.seg,
-                    at: place.at + k.bytes,
-                    end: place.end,
-                };
-                v = width;
-                j = j + k.count;
-            }
-        }
+        let Ok(Room { width, place }) = room_for(s, number, true, v, d) else {
+            return;
+        };
+        let k = copy_here(s, width, n - j, place, buf, j);
+        d = Cursor {
+            at: place.at + k.bytes,
+            ..place
+        };
+        v = width;
+        j += k.count;
     }
 }

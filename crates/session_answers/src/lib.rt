@@ -5,15 +5,14 @@ ghost use Rattle.std.specs.Prelude.{◌≡◌};
 ghost use Rattle.profile.specs.Profile.{profile_of};
 ghost use Rattle.cadence.specs.Cadence.{cadence_of};
 ghost use Rattle.cadence.specs.Steps.{next_pair_of, pairs_of};
-ghost use Rattle.session_answers.specs.Answers.{profile_seen, pair_seen, start_seen, position_of, step_seen};
+ghost use Rattle.session_answers.specs.Answers.{profile_seen, between_seen, pair_seen, start_seen, position_of, step_seen};
 
-use cadence::{Cadence, NextPair, Position, Row, Start};
-use profile::Session;
+use cadence::{Cadence, NextPair, Position, Row};
 use reading::Place;
 
 // How many rows and columns.
 #[repr(C)]
-#[derive(Clone, Copy)]
+#[derive(Clone, Copy, Default)]
 pub struct Profile {
     pub number: u8,
     pub offset: usize,
@@ -23,7 +22,7 @@ pub struct Profile {
 
 // Two neighbouring rows, by kind: 0 refused, 1 a pause, 2 no cadence, 3 a cadence.
 #[repr(C)]
-#[derive(Clone, Copy)]
+#[derive(Clone, Copy, Default)]
 pub struct Pair {
     pub number: u8,
     pub offset: usize,
@@ -35,7 +34,7 @@ pub struct Pair {
 
 // Where the pairs start: the first row, the place after it, how many columns.
 #[repr(C)]
-#[derive(Clone, Copy)]
+#[derive(Clone, Copy, Default)]
 pub struct Pairs {
     pub number: u8,
     pub offset: usize,
@@ -50,7 +49,7 @@ pub struct Pairs {
 
 // The next pair, of kind 0 where they have ended; then its later row and the place after that.
 #[repr(C)]
-#[derive(Clone, Copy)]
+#[derive(Clone, Copy, Default)]
 pub struct Step {
     pub kind: u8,
     pub elapsed: u16,
@@ -69,64 +68,42 @@ pub fn profile_seen(s: &[u8]) -> Profile
     ensures { result ≡ profile_seen (profile_of s.now) }
 {
     match profile::profile(s) {
-        Session::Inside {
-            rows,
-            columns,
-            cells: _,
-        } => Profile {
-            number: 0,
-            offset: 0,
-            rows,
-            columns,
+        Ok(session) => Profile {
+            rows: session.rows,
+            columns: session.columns,
+            ..Profile::default()
         },
-        Session::Refused { number, offset } => Profile {
-            number,
-            offset,
-            rows: 0,
-            columns: 0,
+        Err(refusal) => Profile {
+            number: refusal.number,
+            offset: refusal.offset,
+            ..Profile::default()
         },
     }
 }
 
-fn pair_seen(a: Cadence) -> Pair
-    ensures { result ≡ pair_seen a }
+fn between_seen(a: Cadence) -> Pair
+    ensures { result ≡ between_seen a }
 {
     match a {
         Cadence::Pause => Pair {
-            number: 0,
-            offset: 0,
             kind: 1,
-            ticks: 0,
-            turns: 0,
-            cadence: 0,
+            ..Pair::default()
         },
         Cadence::Still { turns } => Pair {
-            number: 0,
-            offset: 0,
             kind: 2,
-            ticks: 0,
             turns,
-            cadence: 0,
+            ..Pair::default()
         },
         Cadence::Elapsed {
             ticks,
             turns,
             cadence,
         } => Pair {
-            number: 0,
-            offset: 0,
             kind: 3,
             ticks,
             turns,
             cadence,
-        },
-        Cadence::Refused { number, offset } => Pair {
-            number,
-            offset,
-            kind: 0,
-            ticks: 0,
-            turns: 0,
-            cadence: 0,
+            ..Pair::default()
         },
     }
 }
@@ -135,7 +112,14 @@ fn pair_seen(a: Cadence) -> Pair
 pub fn cadence_seen(s: &[u8], row: u32) -> Pair
     ensures { result ≡ pair_seen (cadence_of s.now row) }
 {
-    pair_seen(cadence::cadence_at(s, row))
+    match cadence::cadence_at(s, row) {
+        Ok(a) => between_seen(a),
+        Err(refusal) => Pair {
+            number: refusal.number,
+            offset: refusal.offset,
+            ..Pair::default()
+        },
+    }
 }
 
 // Where the pairs start, for `next_seen`.
@@ -143,92 +127,39 @@ pub fn start_seen(s: &[u8]) -> Pairs
     ensures { result ≡ start_seen (pairs_of s.now) }
 {
     match cadence::pairs(s) {
-        Start::At(p) => {
-            let row = p.earlier;
-            let place = p.cells;
-            Pairs {
-                number: 0,
-                offset: 0,
-                ticks: row.ticks,
-                turns: row.turns,
-                seconds: row.seconds,
-                at: place.at,
-                part: place.part,
-                level: place.level,
-                columns: p.columns,
-            }
-        }
-        Start::Refused { number, offset } => Pairs {
-            number,
-            offset,
-            ticks: 0,
-            turns: 0,
-            seconds: 0,
-            at: 0,
-            part: 0,
-            level: 0,
-            columns: 0,
+        Ok(start) => Pairs {
+            ticks: start.earlier.ticks,
+            turns: start.earlier.turns,
+            seconds: start.earlier.seconds,
+            at: start.cells.at,
+            part: start.cells.part,
+            level: start.cells.level,
+            columns: start.columns,
+            ..Pairs::default()
+        },
+        Err(refusal) => Pairs {
+            number: refusal.number,
+            offset: refusal.offset,
+            ..Pairs::default()
         },
     }
 }
 
-fn position_of(
-    ticks: u16,
-    turns: u16,
-    seconds: u32,
-    at: usize,
-    part: u16,
-    level: u8,
-    columns: u32,
-) -> Position
-    ensures { result ≡ position_of ticks turns seconds at part level columns }
+fn step_seen(pair: NextPair) -> Step
+    ensures { result ≡ step_seen (Some pair) }
 {
-    let earlier = Row {
-        ticks,
-        turns,
-        seconds,
-    };
-    let cells = Place { at, part, level };
-    Position {
-        earlier,
-        cells,
-        columns,
-    }
-}
-
-fn step_seen(n: NextPair) -> Step
-    ensures { result ≡ step_seen n }
-{
-    match n {
-        NextPair::Pair { answer, next } => {
-            let pair = pair_seen(answer);
-            let row = next.earlier;
-            let place = next.cells;
-            Step {
-                kind: pair.kind,
-                elapsed: pair.ticks,
-                turned: pair.turns,
-                cadence: pair.cadence,
-                ticks: row.ticks,
-                turns: row.turns,
-                seconds: row.seconds,
-                at: place.at,
-                part: place.part,
-                level: place.level,
-            }
-        }
-        NextPair::End => Step {
-            kind: 0,
-            elapsed: 0,
-            turned: 0,
-            cadence: 0,
-            ticks: 0,
-            turns: 0,
-            seconds: 0,
-            at: 0,
-            part: 0,
-            level: 0,
-        },
+    let between = between_seen(pair.answer);
+    Step {
+        kind: between.kind,
+        elapsed: between.ticks,
+        turned: between.turns,
+        cadence: between.cadence,
+        ticks: pair.next.earlier.ticks,
+        turns: pair.next.earlier.turns,
+        seconds: pair.next.earlier.seconds,
+        at: pair.next.cells.at,
+        part: pair.next.cells.part,
+        level: pair.next.cells.level,
     }
 }
 
@@ -245,8 +176,17 @@ pub fn next_seen(
 ) -> Step
     ensures { result ≡ step_seen (next_pair_of s.now (position_of ticks turns seconds at part level columns)) }
 {
-    step_seen(cadence::next_pair(
-        s,
-        position_of(ticks, turns, seconds, at, part, level, columns),
-    ))
+    let from = Position {
+        earlier: Row {
+            ticks,
+            turns,
+            seconds,
+        },
+        cells: Place { at, part, level },
+        columns,
+    };
+    match cadence::next_pair(s, from) {
+        Some(pair) => step_seen(pair),
+        None => Step::default(),
+    }
 }

@@ -1,82 +1,66 @@
 // The slots by which the sheet list is held against the substreams, a window of 1,277,952 positions at a time: a pass over its BOFs and one over the sheets,
-// and one more over the BOFs where a slot is still full.
+// and one more over the BOFs where a slot is still full. A fault is the offset of the BOUNDSHEET or BOF at fault.
 #![tactic(auto)]
 
-ghost use Rattle.std.specs.Prelude.{◌≡◌, ◌<◌};
-ghost use Rattle.sheet_agreement.specs.Slots.{inside, code_of, marks, sooner, or_else};
+ghost use Rattle.std.specs.Prelude.{◌≡◌};
+ghost use Rattle.sheet_agreement.specs.Agreement.{number_of};
+ghost use Rattle.sheet_agreement.specs.Slots.{inside, code_of, marks, sooner};
 
-// Whether the sheet list and the substreams agree; if not, the offset of the first BOUNDSHEET or BOF at fault.
-#[derive(Clone, Copy)]
-pub enum Agreement {
-    Agree,
-    Disagree(usize),
+// What a BOUNDSHEET or a BOF says that a sheet is.
+#[derive(Clone, Copy, Debug, PartialEq, Eq)]
+pub enum SheetKind {
+    Worksheet,
+    Chart,
+    Macro,
+    Other,
 }
 
-// Of two refusals the one that comes first in the stream.
-pub fn first_in_stream(a: Agreement, b: Agreement) -> Agreement
+impl SheetKind {
+    fn number(self) -> u8
+        ensures { result ≡ number_of self }
+    {
+        match self {
+            SheetKind::Worksheet => 1,
+            SheetKind::Chart => 2,
+            SheetKind::Macro => 3,
+            SheetKind::Other => 4,
+        }
+    }
+}
+
+// Of two faults the one that comes first in the stream.
+pub fn first_in_stream(a: Option<usize>, b: Option<usize>) -> Option<usize>
     ensures { result ≡ sooner a b }
 {
-    match a {
-        Agreement::Agree => b,
-        Agreement::Disagree(h) => match b {
-            Agreement::Agree => Agreement::Disagree(h),
-            Agreement::Disagree(g) => {
-                if h < g {
-                    return Agreement::Disagree(h);
-                }
-                Agreement::Disagree(g)
-            }
-        },
+    match (a, b) {
+        (Some(h), Some(g)) => Some(h.min(g)),
+        _ => a.or(b),
     }
 }
 
-// The first refusal, or the second if there is none.
-pub fn or_else(a: Agreement, b: Agreement) -> Agreement
-    ensures { result ≡ or_else a b }
-{
-    match a {
-        Agreement::Agree => b,
-        Agreement::Disagree(h) => Agreement::Disagree(h),
-    }
-}
-
-// Whether a position lies in the window from `lo` up to `hi`; 0 for `hi` is no end.
-pub fn in_window(lo: usize, hi: usize, p: usize) -> bool
+// Whether a position lies in the window from `lo` up to `hi`; without `hi` it has no end.
+#[tactic(auto, unfolding(crate::specs::Slots::inside))]
+pub fn in_window(lo: usize, hi: Option<usize>, p: usize) -> bool
     ensures { result ≡ inside lo hi p }
 {
-    if p < lo {
-        return false;
-    }
-    if hi == 0 {
-        return true;
-    }
-    p < hi
+    lo <= p && hi.is_none_or(|end| p < end)
 }
 
 // What stands in the slot of a position where a BOF of this kind starts at it; d is how far from the window's start.
-pub fn slot_of(d: usize, kind: u32) -> u8
-    requires { kind < 8 }
+pub fn slot_of(d: usize, kind: SheetKind) -> u8
     ensures { result ≡ code_of d kind }
 {
-    ((d % 24) * 8 + byte_numbers::u32_as_usize(kind)) as u8
+    ((d % 24) * 8) as u8 + kind.number()
 }
 
 // Whether the slots have a BOF of this kind that starts at a position.
-pub fn slot_has(slots: &[u8; 53248], lo: usize, p: usize, kind: u32) -> bool
+#[tactic(auto, unfolding(crate::specs::Slots::marks))]
+pub fn slot_has(slots: &[u8; 53248], lo: usize, p: usize, kind: SheetKind) -> bool
     ensures { result ≡ marks slots.now lo p kind }
 {
     if p < lo {
         return false;
     }
     let d = p - lo;
-    if 1277952 <= d {
-        return false;
-    }
-    if kind == 0 {
-        return false;
-    }
-    if 7 < kind {
-        return false;
-    }
-    slots[d / 24] == slot_of(d, kind)
+    d < 1277952 && slots[d / 24] == slot_of(d, kind)
 }

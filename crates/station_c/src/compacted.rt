@@ -5,23 +5,24 @@ ghost use Rattle.pair_compact.specs.PairCompact.{pair_compact_of, pair_buffer_af
 ghost use Rattle.station_c.specs.Answers.{compact_seen, pair_compact_seen};
 
 use crate::{NewSession, NewStream};
-use compact::Compacted;
-use pair_compact::PairCompacted;
+use pair::PairRefusal;
+use refusal::Refusal;
 
-fn stream_of(answer: Compacted) -> NewStream
-    ensures { result ≡ compact_seen answer }
-{
-    match answer {
-        Compacted::Written { length } => NewStream {
-            number: 0,
-            offset: 0,
-            written: length,
-        },
-        Compacted::Refused { number, offset } => NewStream {
-            number,
-            offset,
-            written: 0,
-        },
+impl From<Result<usize, Refusal>> for NewStream {
+    ghost from_gives = { λ a y. y ≡ compact_seen a };
+
+    fn from(answer: Result<usize, Refusal>) -> NewStream {
+        match answer {
+            Ok(written) => NewStream {
+                written,
+                ..NewStream::default()
+            },
+            Err(e) => NewStream {
+                number: e.number,
+                offset: e.offset,
+                ..NewStream::default()
+            },
+        }
     }
 }
 
@@ -31,25 +32,26 @@ pub extern "C" fn station_compact(s: &[u8], out: &mut [u8]) -> NewStream
     ensures value { result ≡ compact_seen (answer_of s.now 0 out.old) }
     ensures out_after { out.new ≡ buffer_after s.now 0 out.old }
 {
-    stream_of(compact::compact(s, out))
+    NewStream::from(compact::compact(s, out))
 }
 
-fn session_of(answer: PairCompacted) -> NewSession
-    ensures { result ≡ pair_compact_seen answer }
-{
-    match answer {
-        PairCompacted::Written { length } => NewSession {
-            whose: 2,
-            number: 0,
-            offset: 0,
-            written: length,
-        },
-        PairCompacted::Refused { of, number, offset } => NewSession {
-            whose: pair_answers::of_number(of),
-            number,
-            offset,
-            written: 0,
-        },
+impl From<Result<usize, PairRefusal>> for NewSession {
+    ghost from_gives = { λ a y. y ≡ pair_compact_seen a };
+
+    fn from(answer: Result<usize, PairRefusal>) -> NewSession {
+        match answer {
+            Ok(written) => NewSession {
+                whose: 2,
+                written,
+                ..NewSession::default()
+            },
+            Err(e) => NewSession {
+                whose: pair_answers::of_number(e.of),
+                number: e.number,
+                offset: e.offset,
+                ..NewSession::default()
+            },
+        }
     }
 }
 
@@ -63,5 +65,5 @@ pub extern "C" fn station_pair_compact(
     ensures value { result ≡ pair_compact_seen (pair_compact_of template.now session.now out.old) }
     ensures out_after { out.new ≡ pair_buffer_after template.now session.now out.old }
 {
-    session_of(pair_compact::pair_compact(template, session, out))
+    NewSession::from(pair_compact::pair_compact(template, session, out))
 }

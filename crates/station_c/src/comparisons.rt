@@ -1,30 +1,38 @@
 // The comparison of two revisions as a C function. The archive has the C functions of this crate alone.
 ghost use Rattle.std.specs.Prelude.{◌≡◌, length};
 ghost use Rattle.compare.specs.Comparison.{comparison_of, answer_of, buffer_after};
-ghost use Rattle.station_c.specs.Answers.{compared_seen};
+ghost use Rattle.station_c.specs.Answers.{side_seen, compared_seen};
 
 use crate::Comparison;
-use compare::{Compared, Side};
+use compare::{CompareRefusal, Compared, Side};
 
-// A refusal of the first stream or of the second.
-fn refused(side: Side, number: u8, offset: usize) -> Comparison
-    ensures { result ≡ compared_seen (Compared.Refused side number offset) }
+// The first stream or the second.
+fn side_number(side: Side) -> u8
+    ensures { result ≡ side_seen side }
 {
     match side {
-        Side::First => Comparison {
-            number,
-            which: 1,
-            offset,
-            words: 0,
-            more: false,
-        },
-        Side::Second => Comparison {
-            number,
-            which: 2,
-            offset,
-            words: 0,
-            more: false,
-        },
+        Side::First => 1,
+        Side::Second => 2,
+    }
+}
+
+impl From<Result<Compared, CompareRefusal>> for Comparison {
+    ghost from_gives = { λ a y. y ≡ compared_seen a };
+
+    fn from(answer: Result<Compared, CompareRefusal>) -> Comparison {
+        match answer {
+            Ok(listed) => Comparison {
+                words: listed.words,
+                more: listed.more,
+                ..Comparison::default()
+            },
+            Err(e) => Comparison {
+                number: e.number,
+                which: side_number(e.side),
+                offset: e.offset,
+                ..Comparison::default()
+            },
+        }
     }
 }
 
@@ -39,18 +47,5 @@ pub extern "C" fn station_compare(
     ensures value { result ≡ compared_seen (answer_of (length words.old) (comparison_of first.now second.now from)) }
     ensures words_after { words.new ≡ buffer_after words.old (comparison_of first.now second.now from) }
 {
-    match compare::compare(first, second, from, words) {
-        Compared::Listed { words: count, more } => Comparison {
-            number: 0,
-            which: 0,
-            offset: 0,
-            words: count,
-            more,
-        },
-        Compared::Refused {
-            side,
-            number,
-            offset,
-        } => refused(side, number, offset),
-    }
+    Comparison::from(compare::compare(first, second, from, words))
 }

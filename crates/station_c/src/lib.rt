@@ -18,20 +18,18 @@ ghost use Rattle.reading.specs.Reading.{rows_of};
 ghost use Rattle.fetch.specs.Fetch.{answer_of, buffer_after};
 ghost use Rattle.fetch.specs.Strings.{next_string_of, next_buffer};
 ghost use Rattle.correction.specs.Correction.{correction_of, answer_of as corrected_of, stream_after};
-ghost use Rattle.station_c.specs.Answers.{check_seen, judge_seen, correct_seen, fetch_seen, text_seen, sheet_seen, cells_seen, filled_seen, new_value};
+ghost use Rattle.station_c.specs.Answers.{check_seen, answer_seen, fetch_seen, text_seen, sheet_seen, cells_seen, filled_seen, new_value};
 ghost use Rattle.cell_words.specs.Batch.{filled_from};
 
 use fetch::NextString;
-use listing::{NextSheet, Start};
 use new_value::NewValue;
 use reading::Place;
+use refusal::Refusal;
 use segments::Cursor;
-use strings::Fetched;
-use workbook::Checked;
 
 // How many sheets and strings, and the places before the first sheet and the first string.
 #[repr(C)]
-#[derive(Clone, Copy)]
+#[derive(Clone, Copy, Default)]
 pub struct Check {
     pub number: u8,
     pub offset: usize,
@@ -44,7 +42,7 @@ pub struct Check {
 }
 
 #[repr(C)]
-#[derive(Clone, Copy)]
+#[derive(Clone, Copy, Default)]
 pub struct Answer {
     pub number: u8,
     pub offset: usize,
@@ -52,7 +50,7 @@ pub struct Answer {
 
 // A string's units are at the front of the buffer.
 #[repr(C)]
-#[derive(Clone, Copy)]
+#[derive(Clone, Copy, Default)]
 pub struct Units {
     pub number: u8,
     pub offset: usize,
@@ -61,7 +59,7 @@ pub struct Units {
 
 // How many words were written and whether there are more; or the refusal's number, not 0, its offset, and whose it is: 1 the first stream's, 2 the second's.
 #[repr(C)]
-#[derive(Clone, Copy)]
+#[derive(Clone, Copy, Default)]
 pub struct Comparison {
     pub number: u8,
     pub which: u8,
@@ -72,7 +70,7 @@ pub struct Comparison {
 
 // How many bytes the new stream has, which is at the front of the buffer.
 #[repr(C)]
-#[derive(Clone, Copy)]
+#[derive(Clone, Copy, Default)]
 pub struct NewStream {
     pub number: u8,
     pub offset: usize,
@@ -81,7 +79,7 @@ pub struct NewStream {
 
 // The same of a session over its template, with whose refusal it is; 2 where it is written.
 #[repr(C)]
-#[derive(Clone, Copy)]
+#[derive(Clone, Copy, Default)]
 pub struct NewSession {
     pub whose: u8,
     pub number: u8,
@@ -91,7 +89,7 @@ pub struct NewSession {
 
 // The next string: its units are at the front of the buffer; 12 where that has fewer units than the string. The place after it.
 #[repr(C)]
-#[derive(Clone, Copy)]
+#[derive(Clone, Copy, Default)]
 pub struct SharedString {
     pub ended: bool,
     pub number: u8,
@@ -104,7 +102,7 @@ pub struct SharedString {
 
 // A sheet: its BOUNDSHEET, 12 bytes after whose header its name starts, the name's bytes, the bytes of a character, its type, where its cells start, and the place after it.
 #[repr(C)]
-#[derive(Clone, Copy)]
+#[derive(Clone, Copy, Default)]
 pub struct Sheet {
     pub ended: bool,
     pub header: usize,
@@ -119,7 +117,7 @@ pub struct Sheet {
 
 // Where a listing starts.
 #[repr(C)]
-#[derive(Clone, Copy)]
+#[derive(Clone, Copy, Default)]
 pub struct Cells {
     pub number: u8,
     pub offset: usize,
@@ -130,13 +128,45 @@ pub struct Cells {
 
 // So many cells were written; the listing ended, or goes on at the place.
 #[repr(C)]
-#[derive(Clone, Copy)]
+#[derive(Clone, Copy, Default)]
 pub struct Filled {
     pub cells: usize,
     pub ended: bool,
     pub at: usize,
     pub part: u16,
     pub level: u8,
+}
+
+impl From<Result<(), Refusal>> for Answer {
+    ghost from_gives = { λ a y. y ≡ answer_seen a };
+
+    fn from(answer: Result<(), Refusal>) -> Answer {
+        match answer {
+            Ok(()) => Answer::default(),
+            Err(e) => Answer {
+                number: e.number,
+                offset: e.offset,
+            },
+        }
+    }
+}
+
+impl From<Result<usize, Refusal>> for Units {
+    ghost from_gives = { λ a y. y ≡ fetch_seen a };
+
+    fn from(answer: Result<usize, Refusal>) -> Units {
+        match answer {
+            Ok(units) => Units {
+                units,
+                ..Units::default()
+            },
+            Err(e) => Units {
+                number: e.number,
+                offset: e.offset,
+                ..Units::default()
+            },
+        }
+    }
 }
 
 // The version 0.1.0, a thousand for each part.
@@ -152,61 +182,31 @@ pub extern "C" fn station_check(s: &[u8]) -> Check
     ensures { result ≡ check_seen s.now (checked_of s.now 0) }
 {
     match workbook::check_with(s, 0) {
-        Checked::Right(g) => {
+        Ok(g) => {
             let first = fetch::first_string(s, g.table);
             Check {
-                number: 0,
-                offset: 0,
                 sheets: workbook::sheet_count(s),
                 strings: g.unique,
                 sheet: listing::first_sheet(),
                 segment: first.seg,
                 at: first.at,
                 end: first.end,
+                ..Check::default()
             }
         }
-        Checked::Wrong { number, offset } => Check {
-            number,
-            offset,
-            sheets: 0,
-            strings: 0,
-            sheet: 0,
-            segment: 0,
-            at: 0,
-            end: 0,
+        Err(e) => Check {
+            number: e.number,
+            offset: e.offset,
+            ..Check::default()
         },
     }
 }
 
 #[unsafe(no_mangle)]
 pub extern "C" fn station_judge(tokens: &[u8], trailing: &[u8]) -> Answer
-    ensures { result ≡ judge_seen (judge_of tokens.now trailing.now) }
+    ensures { result ≡ answer_seen (judge_of tokens.now trailing.now) }
 {
-    match formula::judge(tokens, trailing) {
-        tokens::Judgement::Accepted => Answer {
-            number: 0,
-            offset: 0,
-        },
-        tokens::Judgement::Refused { number, offset } => Answer { number, offset },
-    }
-}
-
-// The answer to a fetch.
-pub fn units_of(answer: Fetched) -> Units
-    ensures { result ≡ fetch_seen answer }
-{
-    match answer {
-        Fetched::Units(count) => Units {
-            number: 0,
-            offset: 0,
-            units: count,
-        },
-        Fetched::Refused { number, offset } => Units {
-            number,
-            offset,
-            units: 0,
-        },
-    }
+    Answer::from(formula::judge(tokens, trailing))
 }
 
 #[unsafe(no_mangle)]
@@ -214,7 +214,7 @@ pub extern "C" fn station_fetch(s: &[u8], index: u32, units: &mut [u16]) -> Unit
     ensures value { result ≡ fetch_seen (answer_of s.now index units.old) }
     ensures units_after { units.new ≡ buffer_after s.now index units.old }
 {
-    units_of(fetch::fetch(s, index, units))
+    Units::from(fetch::fetch(s, index, units))
 }
 
 // The next shared string from a place on.
@@ -234,33 +234,28 @@ pub extern "C" fn station_next_string(
         at,
         end,
     };
+    let here = SharedString {
+        segment,
+        at,
+        end,
+        ..SharedString::default()
+    };
     match fetch::next_string(s, from, units) {
-        NextString::Units { units, next } => SharedString {
-            ended: false,
-            number: 0,
-            offset: 0,
+        Ok(Some(NextString { units, next })) => SharedString {
             units,
             segment: next.seg,
             at: next.at,
             end: next.end,
+            ..here
         },
-        NextString::Refused { number, offset } => SharedString {
-            ended: false,
-            number,
-            offset,
-            units: 0,
-            segment,
-            at,
-            end,
-        },
-        NextString::End => SharedString {
+        Ok(None) => SharedString {
             ended: true,
-            number: 0,
-            offset: 0,
-            units: 0,
-            segment,
-            at,
-            end,
+            ..here
+        },
+        Err(e) => SharedString {
+            number: e.number,
+            offset: e.offset,
+            ..here
         },
     }
 }
@@ -271,33 +266,20 @@ pub extern "C" fn station_next_sheet(s: &[u8], place: usize) -> Sheet
     ensures { result ≡ sheet_seen s.now (next_sheet_of s.now place) }
 {
     match listing::next_sheet(s, place) {
-        NextSheet::Sheet {
-            header,
-            type_byte,
-            width,
-            cells,
-            next,
-        } => Sheet {
+        Some(sheet) => Sheet {
             ended: false,
-            header,
-            size: listing::name_at(s, header).len(),
-            width,
-            kind: type_byte,
-            at: cells.at,
-            part: cells.part,
-            level: cells.level,
-            next,
+            header: sheet.header,
+            size: listing::name_at(s, sheet.header).len(),
+            width: sheet.width,
+            kind: sheet.type_byte,
+            at: sheet.cells.at,
+            part: sheet.cells.part,
+            level: sheet.cells.level,
+            next: sheet.next,
         },
-        NextSheet::End => Sheet {
+        None => Sheet {
             ended: true,
-            header: 0,
-            size: 0,
-            width: 0,
-            kind: 0,
-            at: 0,
-            part: 0,
-            level: 0,
-            next: 0,
+            ..Sheet::default()
         },
     }
 }
@@ -307,19 +289,16 @@ pub extern "C" fn station_cells(s: &[u8], sheet: u32) -> Cells
     ensures { result ≡ cells_seen (cells_of s.now sheet) }
 {
     match listing::cells(s, sheet) {
-        Start::At(v) => Cells {
-            number: 0,
-            offset: 0,
+        Ok(v) => Cells {
             at: v.at,
             part: v.part,
             level: v.level,
+            ..Cells::default()
         },
-        Start::Refused { number, offset } => Cells {
-            number,
-            offset,
-            at: 0,
-            part: 0,
-            level: 0,
+        Err(e) => Cells {
+            number: e.number,
+            offset: e.offset,
+            ..Cells::default()
         },
     }
 }
@@ -345,16 +324,23 @@ pub extern "C" fn station_next_cells(
     ensures words_after { words.new ≡ (filled_from s.now (record { at = at; part = part; level = level }) words.old).words }
 {
     let filled = cell_words::fill(s, Place { at, part, level }, words);
-    let place = filled.place;
-    Filled {
-        cells: filled.cells,
-        ended: filled.ended,
-        at: place.at,
-        part: place.part,
-        level: place.level,
+    match filled.rest {
+        Some(place) => Filled {
+            cells: filled.cells,
+            ended: false,
+            at: place.at,
+            part: place.part,
+            level: place.level,
+        },
+        None => Filled {
+            cells: filled.cells,
+            ended: true,
+            ..Filled::default()
+        },
     }
 }
 
+#[tactic(auto, unfolding(crate::specs::Answers::new_value, steps::specs::Choice::pick))]
 pub fn new_value(kind: u8, number: f64, index: u32, byte: u8) -> NewValue
     ensures { result ≡ new_value kind number index byte }
 {
@@ -378,14 +364,9 @@ pub extern "C" fn station_correct(
     index: u32,
     byte: u8,
 ) -> Answer
-    ensures value { result ≡ correct_seen (corrected_of (correction_of s.old 0 0 sheet row column (new_value kind number index byte))) }
+    ensures value { result ≡ answer_seen (corrected_of (correction_of s.old 0 0 sheet row column (new_value kind number index byte))) }
     ensures s_after { s.new ≡ stream_after s.old (correction_of s.old 0 0 sheet row column (new_value kind number index byte)) }
 {
-    match correction::correct(s, sheet, row, column, new_value(kind, number, index, byte)) {
-        new_value::Answer::Granted => Answer {
-            number: 0,
-            offset: 0,
-        },
-        new_value::Answer::Refused { number, offset } => Answer { number, offset },
-    }
+    let value = new_value(kind, number, index, byte);
+    Answer::from(correction::correct(s, sheet, row, column, value))
 }

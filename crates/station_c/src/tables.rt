@@ -4,15 +4,33 @@ ghost use Rattle.string_places.specs.Places.{fill_of, table_after, through_of, b
 ghost use Rattle.station_c.specs.Answers.{fetch_seen, table_seen};
 
 use crate::Units;
-use string_places::Filled;
+use refusal::Refusal;
 
 // Of how many strings the table has the places.
 #[repr(C)]
-#[derive(Clone, Copy)]
+#[derive(Clone, Copy, Default)]
 pub struct FilledTable {
     pub number: u8,
     pub offset: usize,
     pub strings: u32,
+}
+
+impl From<Result<u32, Refusal>> for FilledTable {
+    ghost from_gives = { λ a y. y ≡ table_seen a };
+
+    fn from(answer: Result<u32, Refusal>) -> FilledTable {
+        match answer {
+            Ok(strings) => FilledTable {
+                strings,
+                ..FilledTable::default()
+            },
+            Err(e) => FilledTable {
+                number: e.number,
+                offset: e.offset,
+                ..FilledTable::default()
+            },
+        }
+    }
 }
 
 #[unsafe(no_mangle)]
@@ -20,18 +38,7 @@ pub extern "C" fn station_fill(s: &[u8], table: &mut [u32]) -> FilledTable
     ensures value { result ≡ table_seen (fill_of s.now 0 table.old) }
     ensures table_after { table.new ≡ table_after s.now 0 table.old }
 {
-    match string_places::fill(s, table) {
-        Filled::Strings(strings) => FilledTable {
-            number: 0,
-            offset: 0,
-            strings,
-        },
-        Filled::Refused { number, offset } => FilledTable {
-            number,
-            offset,
-            strings: 0,
-        },
-    }
+    FilledTable::from(string_places::fill(s, table))
 }
 
 // A string by its entry in the table, without a check.
@@ -45,5 +52,5 @@ pub extern "C" fn station_fetch_through(
     ensures value { result ≡ fetch_seen (through_of s.now table.now index units.old) }
     ensures units_after { units.new ≡ buffer_through s.now table.now index units.old }
 {
-    crate::units_of(string_places::fetch_through(s, table, index, units))
+    Units::from(string_places::fetch_through(s, table, index, units))
 }

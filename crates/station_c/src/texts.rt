@@ -18,7 +18,7 @@ pub extern "C" fn station_text(
     ensures value { result ≡ fetch_seen (answer_of s.now sheet row column units.old) }
     ensures units_after { units.new ≡ buffer_after s.now sheet row column units.old }
 {
-    crate::units_of(cell_text::fetch_cell(s, sheet, row, column, units))
+    Units::from(cell_text::fetch_cell(s, sheet, row, column, units))
 }
 
 // The same for a listed cell, from the place of its value field and without a check.
@@ -27,5 +27,5 @@ pub extern "C" fn station_text_at(s: &[u8], field: usize, units: &mut [u16]) -> 
     ensures value { result ≡ fetch_seen (answer_at s.now field units.old) }
     ensures units_after { units.new ≡ buffer_at s.now field units.old }
 {
-    crate::units_of(text_result::text_at(s, field, units))
+    Units::from(text_result::text_at(s, field, units))
 }

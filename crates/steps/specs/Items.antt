@@ -27,5 +27,5 @@ nth (x ∷ l) (suc n) f d = nth l n f d
 -- A step that is called again and again, each time from the place that its last answer gave: from s on it gives the items of l, in order, and then the end.
 -- `Next s x t` says that from s it gives x and the place t, `End s` that it gives the end.
 pub data Lists {S X : Type 0} (Next : S → X → S → Type 0) (End : S → Type 0) : S → List X → Type 0 where
-  at_end_lem : {s : S} → End s → Lists Next End s []
+  at_end : {s : S} → End s → Lists Next End s []
   and_then : {s t : S} {x : X} {l : List X} → Next s x t → Lists Next End t l → Lists Next End s (x ∷ l)

@@ -1,31 +1,51 @@
 -- The laws of marks. Assumes nothing.
-use Prim.Native.Nat.{ℕ, zero, suc, ◌+◌, ◌-◌, ◌*◌, ◌/◌, ◌%◌, ◌^◌, ◌≤◌, ◌<◌}
-use mathlib.Core.Path.{◌≡◌, refl, sym, ap, ◌∙◌, subst}
+use Prim.Native.Nat.{ℕ, zero, suc, ◌+◌, ◌-◌, ◌≤◌, ◌<◌}
+use mathlib.Core.Path.{◌≡◌, refl, sym, ap, ◌∙◌, subst, subst⁻¹}
 use mathlib.Core.Bool.{Bool, true, false}
 use mathlib.Core.List.{List}
+use Rattle.std.specs.Prelude.{Result, Ok, IsOk}
 use native.Mathlib.Omega.{arith}
 use native.Mathlib.Nat.{zero-add, suc-add}
-use lib.ListN.{length, get_or, set, length-set, get_or-eq_default}
+use lib.ListN.{length, get_or, set, length-set}
 use lib.Seq.{get_or-set_same, get_or-set_other}
 use lib.Dec.{eqb}
 use borrow.Author.Tests.{eqb-true, eqb-false}
 use Rattle.steps.proofs.Choice.{pick_any}
 use Rattle.byte_numbers.specs.Bytes.{u16_at}
 use Rattle.segments.specs.declared.Cursor.{Cursor}
-use Rattle.segments.specs.declared.Moved.{Moved}
+use Rattle.refusal.specs.declared.Refusal.{Refusal}
 use Rattle.record.specs.declared.Header.{Header}
 use Rattle.record.specs.declared.Header.TheVariants.{Record, Cut, End}
 use Rattle.record.specs.Record.{header_at}
 use Rattle.record.proofs.Laws.{whole}
-use Rattle.segments.specs.Segments.{Got, got, refused, then, push, on, segment_of, next_segment, need, enter, room, items}
+use Rattle.segments.specs.Segments.{Got, got, refused, then, push, on, segment_of as segment_by, next_segment, need, enter, room, items}
 use Rattle.segments.specs.Parts.{Inside, ends, moved}
 use Rattle.segments.proofs.Local.{refused_not}
 use Rattle.segments.proofs.Laws.{ends_push}
 use Rattle.strings.specs.Table.{start_size, head, rest, string_at, next_place, strings, first, places_of, place_of}
 use Rattle.strings.specs.Parts.{next_string}
-use Rattle.strings.proofs.Laws.{first_inside, strings_inside, strings_turn, skipped_not, skipped_inside, placed_not, placed}
-use Rattle.string_marks.specs.declared.Passed.{Passed}
-use Rattle.string_marks.specs.Marks.{end_at, before_at, segment_at, link_at, cursor_at, stored_at, linked_at, Kept, Marked, Passes}
+use Rattle.strings.proofs.Laws.{first_inside, strings_inside, strings_left, skipped_ok, skipped_inside, placed_ok, placed}
+use Rattle.string_marks.specs.declared.marks.Mark.{Mark}
+use Rattle.string_marks.specs.declared.marks.MarkedTable.{MarkedTable}
+use Rattle.string_marks.specs.declared.table.Table.{Table}
+use Rattle.string_marks.specs.Marks.{end_at, EndsAt, Reaches, no_mark, before_at, link_at, segment_of, cursor_of, cursor_at, Marked, Kept, Passes, Tells}
+
+-- ---- where a table was read to
+ends_there : {A : Type 0} (x : Got A) (c : Cursor) → EndsAt x c → ends x ≡ got tt c
+ends_there (got a d) c (i, (j, k)) = λ z. got tt (record { seg = i z; at = j z; end = k z })
+ends_there (refused n o) c h = absurd h
+
+there_ends : {A : Type 0} (x : Got A) (c : Cursor) → ends x ≡ got tt c → EndsAt x c
+there_ends (got a d) c h = let e : ◌≡◌ {A = Cursor} d c = cc in (ap (λ (x : Cursor). x.seg) e, (ap (λ (x : Cursor). x.at) e, ap (λ (x : Cursor). x.end) e))
+there_ends (refused n o) c h = absurd (refused_not h)
+
+pub reaches : (s : List ℕ) (p n : ℕ) (c : Cursor) → Reaches s p n c → ends (strings s n (first p (end_at s p))) ≡ got tt c
+unfolding Reaches
+reaches s p n c h = ends_there (strings s n (first p (end_at s p))) c h
+
+pub reached : (s : List ℕ) (p n : ℕ) (c : Cursor) → ends (strings s n (first p (end_at s p))) ≡ got tt c → Reaches s p n c
+unfolding Reaches
+reached s p n c h = there_ends (strings s n (first p (end_at s p))) c h
 
 -- ---- a strings that end at d, and b more
 module _ (s : List ℕ) (b : ℕ) (d : Cursor) where
@@ -51,11 +71,12 @@ pub pass_none : (s : List ℕ) (c : Cursor) → ends (strings s 0 c) ≡ got tt 
 unfolding strings
 pass_none s c = refl
 
-pub pass_on : (s : List ℕ) (done : ℕ) (c d e : Cursor) (m : Moved) → ends (strings s done c) ≡ got tt d → moved m ≡ ends (next_string s d) → m ≡ Moved.To e → ends (strings s (done + 1) c) ≡ got tt e
-pass_on s done c d e m h is q = strings_add s 1 d done c h ∙ strings_turn s 1 d (ends (strings s 1 d)) refl m is (λ z. omega arith) e q ∙ pass_none s e
-
-pub passes_made : (s : List ℕ) (n : ℕ) (c : Cursor) (r : Passed) → r.count ≤ n → Inside s r.place → ends (strings s r.count c) ≡ got tt r.place → Passes s n c r
-passes_made s n c r f i h = record { few = f; inside = i; is = h }
+pub pass_on : (s : List ℕ) (done : ℕ) (c d e : Cursor) (m : Result Cursor Refusal) → ends (strings s done c) ≡ got tt d → moved m ≡ ends (next_string s d) → m ≡ Ok e → ends (strings s (done + 1) c) ≡ got tt e
+pass_on s done c d e m h is q =
+    strings_add s 1 d done c h
+    ∙ strings_left s 1 0 d (omega arith)
+    ∙ ap (λ (x : Got Unit). then x (λ _ g. ends (strings s 0 g))) (sym is ∙ ap moved q)
+    ∙ pass_none s e
 
 -- ---- past a CONTINUE
 module _ (s : List ℕ) (p k z e : ℕ) (h : Header) (is : h ≡ header_at s p) (q : h ≡ Record k z e) where
@@ -68,14 +89,12 @@ module _ (s : List ℕ) (p k z e : ℕ) (h : Header) (is : h ≡ header_at s p) 
   pub end_less : length s - e < length s - p
   end_less = let w = whole s p k z e (sym is ∙ q) in omega arith
 
-pub ruleset end_laws = (end_within, end_later, end_less)
-
 -- ---- a segment's header stands before what is read in it, and tells where it ends
 module _ (s : List ℕ) where
   pub record In (c : Cursor) : Type 0 where
     pub low : c.seg + 4 ≤ c.at
     pub till : c.end ≡ end_at s c.seg
-    pub short : c.end ≤ c.seg + 65540
+    pub short : c.end < c.seg + 65540
 
   abbrev Low : {A : Type 0} → Got A → Type 0
   Low (got a c) = In c
@@ -105,7 +124,7 @@ module _ (s : List ℕ) where
     unfolding next_segment
     low_next c = pick_any Low _ (by (header_at s c.end) refl) tt
       where
-        by : (h : Header) → header_at s c.end ≡ h → Low (segment_of n c.end h)
+        by : (h : Header) → header_at s c.end ≡ h → Low (segment_by n c.end h)
         by (Record k z e) i = let h = whole s c.end k z e i in pick_any Low _ tt (record { low = omega arith; till = h.end ∙ ap (λ (x : ℕ). c.end + 4 + x) h.size; short = omega arith })
         by Cut i = tt
         by End i = tt
@@ -137,258 +156,173 @@ module _ (s : List ℕ) where
       (λ _ d i. low_then (string_at s d) _ (low_string d i) (λ _ e j. low_push d (strings s n e) (low_strings n e j)))
 
   -- the place after n strings of a table
-  pub low_after : (p e n : ℕ) (c : Cursor) → e ≡ end_at s p → e ≤ p + 65540 → ends (strings s n (first p e)) ≡ got tt c → In c
+  pub low_after : (p e n : ℕ) (c : Cursor) → e ≡ end_at s p → e < p + 65540 → ends (strings s n (first p e)) ≡ got tt c → In c
   low_after p e n c t k h = subst Low h (low_ends (strings s n (first p e)) (low_strings n (first p e) (record { low = omega arith; till = t; short = k })))
 
--- ---- a mark stored
-pub cursor_made : (s m : List ℕ) (j a b f g d : ℕ) → b ≡ get_or m (3 * j + 1) 0 → d ≡ get_or m (3 * j + 2) 0 % 131072 → a ≡ b - d → f ≡ g → g ≡ u16_at s (a + 2) → record { seg = a; at = b; end = a + 4 + f } ≡ cursor_at s m j
-unfolding cursor_at
-cursor_made s m j a b f g d y x o h k =
-    let i : a ≡ segment_at m j = o ∙ (λ w. y w - x w) in
-    let z : a + 4 + f ≡ end_at s (segment_at m j) = ap (λ (v : ℕ). a + 4 + v) (h ∙ k) ∙ ap (end_at s) i in
-    λ w. record { seg = i w; at = y w; end = z w }
+-- ---- a mark's cursor
+pub cursor_made : (s : List ℕ) (x : Mark) (a f g d : ℕ) → d ≡ x.into → a ≡ x.at - (d + 4) → f ≡ g → g ≡ u16_at s (a + 2) → record { seg = a; at = x.at; end = a + 4 + f } ≡ cursor_of s x
+unfolding cursor_of
+cursor_made s x a f g d y o h k =
+    let i : a ≡ segment_of x = o ∙ ap (λ (n : ℕ). x.at - (n + 4)) y in
+    let z : a + 4 + f ≡ end_at s (segment_of x) = ap (λ (v : ℕ). a + 4 + v) (h ∙ k) ∙ ap (end_at s) i in
+    λ w. record { seg = i w; at = x.at; end = z w }
 
-pub stored_made : (m : List ℕ) (j : ℕ) (c : Cursor) (x i a b k : ℕ) → i ≡ x → a ≡ c.at → b ≡ c.at - c.seg → set (set (set m (3 * j) i) (3 * j + 1) a) (3 * j + 2) (b + 131072 * k) ≡ stored_at m j x c k
-unfolding stored_at
-stored_made m j c x i a b k h u v = λ z. set (set (set m (3 * j) (h z)) (3 * j + 1) (u z)) (3 * j + 2) (v z + 131072 * k)
+told_cursor : (s : List ℕ) (n : ℕ) (c : Cursor) (x : Mark) → Tells n c x → c.end ≡ end_at s c.seg → cursor_of s x ≡ c
+unfolding cursor_of
+told_cursor s n c x t e = let i = t.seg in let j = t.at in let k = ap (end_at s) i ∙ sym e in λ z. record { seg = i z; at = j z; end = k z }
 
-pub linked_made : (m : List ℕ) (j k x : ℕ) → x ≡ get_or m (3 * j + 2) 0 → set m (3 * j + 2) (x % 131072 + 131072 * k) ≡ linked_at m j k
-unfolding linked_at
-linked_made m j k x h = λ z. set m (3 * j + 2) (h z % 131072 + 131072 * k)
-
--- three numbers stored one after the other
-module _ (m : List ℕ) (j a b c : ℕ) (room : 3 * j + 2 < length m) where
-  abbrev m₁ : List ℕ
-  m₁ = set m (3 * j) a
-
-  abbrev m₂ : List ℕ
-  m₂ = set m₁ (3 * j + 1) b
-
-  abbrev m₃ : List ℕ
-  m₃ = set m₂ (3 * j + 2) c
-
-  three_size : length m₃ ≡ length m
-  three_size = length-set m₂ (3 * j + 2) c ∙ length-set m₁ (3 * j + 1) b ∙ length-set m (3 * j) a
-
-  three_first : get_or m₃ (3 * j) 0 ≡ a
-  three_first = get_or-set_other m₂ (3 * j + 2) (3 * j) c 0 (λ e. omega arith) ∙ get_or-set_other m₁ (3 * j + 1) (3 * j) b 0 (λ e. omega arith) ∙ get_or-set_same m (3 * j) a 0 (omega arith)
-
-  three_second : get_or m₃ (3 * j + 1) 0 ≡ b
-  three_second = get_or-set_other m₂ (3 * j + 2) (3 * j + 1) c 0 (λ e. omega arith) ∙ get_or-set_same m₁ (3 * j + 1) b 0 (let l = length-set m (3 * j) a in omega arith)
-
-  three_third : get_or m₃ (3 * j + 2) 0 ≡ c
-  three_third = get_or-set_same m₂ (3 * j + 2) c 0 (let l = length-set m₁ (3 * j + 1) b in let k = length-set m (3 * j) a in omega arith)
-
-  three_before : (i : ℕ) → i < 3 * j → get_or m₃ i 0 ≡ get_or m i 0
-  three_before i l = get_or-set_other m₂ (3 * j + 2) i c 0 (λ e. omega arith) ∙ get_or-set_other m₁ (3 * j + 1) i b 0 (λ e. omega arith) ∙ get_or-set_other m (3 * j) i a 0 (λ e. omega arith)
-
-module _ (s m : List ℕ) (j i : ℕ) (c : Cursor) (k : ℕ) (room : 3 * j + 2 < length m) where
-  pub stored_size : length (stored_at m j i c k) ≡ length m
-  unfolding stored_at
-  stored_size = three_size m j i c.at (c.at - c.seg + 131072 * k) room
-
-  stored_count : before_at (stored_at m j i c k) j ≡ i
-  unfolding stored_at
-  stored_count = three_first m j i c.at (c.at - c.seg + 131072 * k) room
-
-  stored_here : c.seg ≤ c.at → c.at < c.seg + 131072 → c.end ≡ end_at s c.seg → cursor_at s (stored_at m j i c k) j ≡ c
-  unfolding cursor_at stored_at
-  stored_here low short till =
-      let b = three_second m j i c.at (c.at - c.seg + 131072 * k) room in
-      let d = three_third m j i c.at (c.at - c.seg + 131072 * k) room in
-      let a : segment_at (set (set (set m (3 * j) i) (3 * j + 1) c.at) (3 * j + 2) (c.at - c.seg + 131072 * k)) j ≡ c.seg = omega arith in
-      let e = ap (end_at s) a ∙ sym till in
-      λ z. record { seg = a z; at = b z; end = e z }
-
-  stored_count_before : (l : ℕ) → l < j → before_at (stored_at m j i c k) l ≡ before_at m l
-  unfolding stored_at
-  stored_count_before l h = three_before m j i c.at (c.at - c.seg + 131072 * k) room (3 * l) (omega arith)
-
-  stored_before : (l : ℕ) → l < j → cursor_at s (stored_at m j i c k) l ≡ cursor_at s m l
-  unfolding cursor_at stored_at
-  stored_before l h =
-      let b = three_before m j i c.at (c.at - c.seg + 131072 * k) room (3 * l + 1) (omega arith) in
-      let d = three_before m j i c.at (c.at - c.seg + 131072 * k) room (3 * l + 2) (omega arith) in
-      λ z. record { seg = b z - d z % 131072; at = b z; end = end_at s (b z - d z % 131072) }
-
--- ---- a link set
-module _ (m : List ℕ) (j k : ℕ) (room : 3 * j + 2 < length m) where
-  abbrev word : ℕ
-  word = get_or m (3 * j + 2) 0 % 131072 + 131072 * k
-
-  other : (i : ℕ) → (3 * j + 2 ≡ i → ⊥) → get_or (set m (3 * j + 2) word) i 0 ≡ get_or m i 0
-  other i h = get_or-set_other m (3 * j + 2) i word 0 (λ e. h (sym e))
-
-  far : (l : ℕ) (b : Bool) → eqb l j ≡ b → get_or (set m (3 * j + 2) word) (3 * l + 2) 0 % 131072 ≡ get_or m (3 * l + 2) 0 % 131072
-  far l true e =
-      let i = eqb-true l j e in
-      let r : word % 131072 ≡ get_or m (3 * j + 2) 0 % 131072 = omega arith in
-      ap (λ (x : ℕ). get_or (set m (3 * j + 2) word) (3 * x + 2) 0 % 131072) i
-      ∙ ap (λ (x : ℕ). x % 131072) (get_or-set_same m (3 * j + 2) word 0 room)
-      ∙ r
-      ∙ ap (λ (x : ℕ). get_or m (3 * x + 2) 0 % 131072) (sym i)
-  far l false e = ap (λ (x : ℕ). x % 131072) (other (3 * l + 2) (λ i. eqb-false l j e (omega arith)))
-
-  pub linked_kept : Kept m (linked_at m j k)
-  unfolding cursor_at linked_at
-  linked_kept = record {
-    size = length-set m (3 * j + 2) word;
-    before = λ l. other (3 * l) (λ e. omega arith);
-    cursor = λ s l. let x = other (3 * l + 1) (λ i. omega arith) in let y = far l (eqb l j) refl in λ z. record { seg = x z - y z; at = x z; end = end_at s (x z - y z) };
-  }
-
-pub linked_here : (m : List ℕ) (j k : ℕ) → 3 * j + 2 < length m → link_at (linked_at m j k) j ≡ k
-unfolding linked_at
-linked_here m j k room = let e = get_or-set_same m (3 * j + 2) (get_or m (3 * j + 2) 0 % 131072 + 131072 * k) 0 room in omega arith
-
-pub linked_other : (m : List ℕ) (j k l : ℕ) → (l ≡ j → ⊥) → link_at (linked_at m j k) l ≡ link_at m l
-unfolding linked_at
-linked_other m j k l h = ap (λ (x : ℕ). x / 131072) (get_or-set_other m (3 * j + 2) (3 * l + 2) (get_or m (3 * j + 2) 0 % 131072 + 131072 * k) 0 (λ e. h (omega arith)))
-
-pub marked_kept : (s : List ℕ) (p e : ℕ) (m m' : List ℕ) → Kept m m' → Marked s p e m → Marked s p e m'
-marked_kept s p e m m' k f = record {
-  some = let l = k.size in let h = f.some in omega arith;
-  none_before = k.before 0 ∙ f.none_before;
-  at = λ j l. ap (λ (i : ℕ). ends (strings s i (first p e))) (k.before j) ∙ f.at j (let n = k.size in omega arith) ∙ ap (got tt) (sym (k.cursor s j));
-}
-
-pub link_past : (m : List ℕ) (j : ℕ) → length m ≤ 3 * j + 2 → 0 ≡ link_at m j
-link_past m j h = let e = get_or-eq_default m 0 h in omega arith
-
-pub before_past : (m : List ℕ) (j : ℕ) → length m ≤ 3 * j → 0 ≡ before_at m j
-before_past m j h = sym (get_or-eq_default m 0 h)
-
--- ---- filling: j marks are stored, `done` strings passed, the next is looked for at c
-pub record Filling (s : List ℕ) (p e size : ℕ) (m : List ℕ) (c : Cursor) (j done : ℕ) : Type 0 where
-  pub size_is : length m ≡ size
-  pub here : ends (strings s done (first p e)) ≡ got tt c
-  pub none_before : j ≡ 0 → done ≡ 0
+-- ---- the marks of a table
+-- the first j marks stand, and so many strings were passed
+pub record Standing (s : List ℕ) (p : ℕ) (m : List Mark) (j k : ℕ) : Type 0 where
+  pub before_none : j ≡ 0 → k ≡ 0
   pub first_none : 0 < j → before_at m 0 ≡ 0
-  pub before : (k : ℕ) → k < j → ends (strings s (before_at m k) (first p e)) ≡ got tt (cursor_at s m k)
+  pub each : (l : ℕ) → l < j → Reaches s p (before_at m l) (cursor_at s m l)
 
-pub fill_start : (s : List ℕ) (p e : ℕ) (m : List ℕ) → Filling s p e (length m) m (record { seg = p; at = p + 12; end = e }) 0 0
-fill_start s p e m = record { size_is = refl; here = pass_none s (first p e); none_before = λ _. refl; first_none = λ h. absurd (omega arith); before = λ k h. absurd (omega arith) }
+pub standing_none : (s : List ℕ) (p : ℕ) (m : List Mark) → Standing s p m 0 0
+standing_none s p m = record { before_none = λ _. refl; first_none = λ h. absurd (omega arith); each = λ l h. absurd (omega arith) }
 
-low_end : (s : List ℕ) (p e : ℕ) → e ≡ end_at s p → p + 4 ≤ e
-low_end s p e till = omega arith
+-- a table of n strings, at least one
+pub record Whole (s : List ℕ) (p n : ℕ) : Type 0 where
+  pub short : end_at s p < p + 65540
+  pub within : end_at s p ≤ length s
+  pub counted : length (places_of s p (end_at s p)) ≡ n
+  pub some : 0 < n
 
-module _ (s : List ℕ) (p e n : ℕ) (till : e ≡ end_at s p) (short : e ≤ p + 65540) (within : e ≤ length s) (some : 1 ≤ n) (all : n ≤ length (places_of s p e)) where
-  pub start_inside : Inside s (first p e)
-  start_inside = first_inside s p e 0 (omega arith) (low_end s p e till) within
+pub whole_table : (t : Table) → 0 < t.count → Whole t.stream.now t.place t.count
+whole_table t some = let later : 0 < t.place = later' in record { short = t.short; within = t.within later; counted = t.counted later; some = some }
+  where
+    later' : 0 < t.place
+    later' = by (eqb t.place 0) refl
+      where
+        by : (b : Bool) → eqb t.place 0 ≡ b → 0 < t.place
+        by true e = absurd (let z = t.absent (eqb-true t.place 0 e) in omega arith)
+        by false e = let z = eqb-false t.place 0 e in omega arith
 
-  pub start_low : p + 12 < 2 ^ 64 → p + 12 ≤ length s
-  start_low _ = let i = start_inside in let a = i.0 in let b = i.1 in omega arith
+module _ (s : List ℕ) (p n : ℕ) (whole : Whole s p n) where
+  there : (i : ℕ) → i < n → i < length (places_of s p (end_at s p))
+  there i h = let c = whole.counted in omega arith
 
-  module _ (size : ℕ) (m : List ℕ) (c : Cursor) (j done : ℕ) (f : Filling s p e size m c j done) where
-    pub fill_inside : Inside s c
-    fill_inside = strings_inside s done (first p e) c (Moved.To c) (sym f.here) refl start_inside
+  low : p + 4 ≤ end_at s p
+  low = omega arith
 
-    fill_in : In s c
-    fill_in = low_after s p e done c till short f.here
+  start_inside : Inside s (first p (end_at s p))
+  start_inside = first_inside s p (end_at s p) 0 (there 0 whole.some) low whole.within
 
-    pub fill_low : c.seg ≤ c.at
-    fill_low = let a = fill_in.low in omega arith
+  pub start_low : p + 12 ≤ end_at s p
+  start_low = let i = start_inside in i.0
 
-    pub fill_short : c.at < c.seg + 131072
-    fill_short = let a = fill_in.short in let b = fill_inside.0 in omega arith
+  pub start_passed : (e last : ℕ) → e ≡ end_at s p → Passes s p n (record { count = 0; place = record { seg = p; at = p + 12; end = e }; last = last })
+  start_passed e last is = record { few = omega arith; here = reached s p 0 _ (pass_none s _ ∙ ap (λ (x : ℕ). got tt (record { seg = p; at = p + 12; end = x })) (sym is)) }
 
-    pub fill_small : length s ≤ 16777216 → c.at < 4294967296
-    fill_small h = let b = fill_inside in let d = b.0 in let i = b.1 in omega arith
+  module _ (k : ℕ) (c : Cursor) (h : Reaches s p k c) where
+    pub passed_inside : Inside s c
+    passed_inside = strings_inside s k (first p (end_at s p)) c (Ok c) (sym (reaches s p k c h)) refl start_inside
 
-    pub fill_done : 3 ≤ size → size / 3 ≤ j → Marked s p e m
-    fill_done h l = record {
-      some = let z = f.size_is in omega arith;
-      none_before = f.first_none (omega arith);
-      at = λ k i. f.before k (let z = f.size_is in omega arith);
-    }
+    passed_in : In s c
+    passed_in = low_after s p (end_at s p) k c refl whole.short (reaches s p k c h)
 
-    pub fill_room : j < size / 3 → 3 * j + 2 < length m
-    fill_room h = let z = f.size_is in omega arith
+    pub passed_low : c.seg + 4 ≤ c.at
+    passed_low = passed_in.low
 
-    module _ (room : 3 * j + 2 < length m) (k : ℕ) (m' : List ℕ) (m-is : m' ≡ stored_at m j done c k) where
-      stored : Filling s p e size m' c (j + 1) done
-      stored = subst⁻ m-is
-        where
-          upto : (l : ℕ) → l < j + 1 → (b : Bool) → eqb l j ≡ b → ends (strings s (before_at (stored_at m j done c k) l) (first p e)) ≡ got tt (cursor_at s (stored_at m j done c k) l)
-          upto l h true q =
-              let i = eqb-true l j q in
-              ap (λ (x : ℕ). ends (strings s (before_at (stored_at m j done c k) x) (first p e))) i
-              ∙ ap (λ (x : ℕ). ends (strings s x (first p e))) (stored_count s m j done c k room)
-              ∙ f.here
-              ∙ ap (got tt) (sym (stored_here s m j done c k room fill_low fill_short fill_in.till))
-              ∙ ap (λ (x : ℕ). got tt (cursor_at s (stored_at m j done c k) x)) (sym i)
-          upto l h false q =
-              let i = eqb-false l j q in
-              let o : l < j = omega arith in
-              ap (λ (x : ℕ). ends (strings s x (first p e))) (stored_count_before s m j done c k room l o)
-              ∙ f.before l o
-              ∙ ap (got tt) (sym (stored_before s m j done c k room l o))
+    pub passed_short : c.at < c.seg + 65540
+    passed_short = let a = passed_in.short in let b = passed_inside.0 in omega arith
 
-          none : (b : Bool) → eqb j 0 ≡ b → before_at (stored_at m j done c k) 0 ≡ 0
-          none true q =
-              let i = eqb-true j 0 q in
-              ap (before_at (stored_at m j done c k)) (sym i) ∙ stored_count s m j done c k room ∙ f.none_before i
-          none false q = let i = eqb-false j 0 q in let o : 0 < j = omega arith in stored_count_before s m j done c k room 0 o ∙ f.first_none o
+    pub passed_small : length s ≤ 16777216 → c.at < 4294967296
+    passed_small h = let b = passed_inside in let d = b.0 in let i = b.1 in omega arith
 
-          made : Filling s p e size (stored_at m j done c k) c (j + 1) done
-          made = record {
-            size_is = stored_size s m j done c k room ∙ f.size_is;
-            here = f.here;
-            none_before = λ h. absurd (omega arith);
-            first_none = λ _. none (eqb j 0) refl;
-            before = λ l h. upto l h (eqb l j) refl;
-          }
+    pub passed_on : (e : Cursor) (m : Result Cursor Refusal) → moved m ≡ ends (next_string s c) → m ≡ Ok e → Reaches s p (k + 1) e
+    passed_on e m is q = reached s p (k + 1) e (pass_on s k (first p (end_at s p)) c e m (reaches s p k c h) is q)
 
-          subst⁻ : m' ≡ stored_at m j done c k → Filling s p e size m' c (j + 1) done
-          subst⁻ h = subst (λ (x : List ℕ). Filling s p e size x c (j + 1) done) (sym h) made
+    told_here : (x : Mark) → Tells k c x → Reaches s p x.before (cursor_of s x)
+    told_here x t = subst⁻¹ (λ (d : Cursor). Reaches s p x.before d) (told_cursor s k c x t passed_in.till) (subst⁻¹ (λ (n : ℕ). Reaches s p n c) t.before h)
 
-      pub fill_turn : (r : Passed) → Passes s (n - done) c r → Filling s p e size m' r.place (j + 1) (done + r.count)
-      fill_turn r h = record {
-        size_is = stored.size_is;
-        here = strings_add s r.count c done (first p e) f.here ∙ h.is;
-        none_before = λ i. absurd (omega arith);
-        first_none = stored.first_none;
-        before = stored.before;
-      }
+  pub standing_on : (m : List Mark) (j k i : ℕ) (c : Cursor) (x : Mark) → Standing s p m j k → Reaches s p k c → Tells k c x → j < length m → Standing s p (set m j x) (j + 1) i
+  standing_on m j k i c x f h t room = record { before_none = λ e. absurd (omega arith); first_none = λ _. none (eqb j 0) refl; each = λ l o. by l o (eqb l j) refl }
+    where
+      here : get_or (set m j x) j no_mark ≡ x
+      here = get_or-set_same m j x no_mark room
 
-pub ruleset fill_laws = (fill_start, start_low, fill_inside, fill_low, fill_short, fill_small, fill_done, fill_room)
+      none : (b : Bool) → eqb j 0 ≡ b → before_at (set m j x) 0 ≡ 0
+      none true q =
+          let i = eqb-true j 0 q in
+          ap (before_at (set m j x)) (sym i) ∙ ap (λ (y : Mark). y.before) here ∙ t.before ∙ f.before_none i
+      none false q = let i = eqb-false j 0 q in ap (λ (y : Mark). y.before) (get_or-set_other m j 0 x no_mark (λ e. i (sym e))) ∙ f.first_none (omega arith)
+
+      by : (l : ℕ) → l < j + 1 → (b : Bool) → eqb l j ≡ b → Reaches s p (before_at (set m j x) l) (cursor_at s (set m j x) l)
+      by l d true q =
+          let i = eqb-true l j q in
+          subst⁻¹ (λ (o : ℕ). Reaches s p (before_at (set m j x) o) (cursor_at s (set m j x) o)) i (subst⁻¹ (λ (y : Mark). Reaches s p y.before (cursor_of s y)) here (told_here k c h x t))
+      by l d false q =
+          let o = eqb-false l j q in
+          subst⁻¹ (λ (y : Mark). Reaches s p y.before (cursor_of s y)) (get_or-set_other m j l x no_mark o) (f.each l (omega arith))
+
+  pub standing_all : (m : List Mark) (j k : ℕ) → Standing s p m j k → 0 < length m → length m ≤ j → Marked s p m
+  standing_all m j k f h l = record { some = h; none_before = f.first_none (omega arith); each = λ i o. f.each i (omega arith) }
 
 -- ---- from a mark before it on
-module _ (s : List ℕ) (p e n : ℕ) (till : e ≡ end_at s p) (short : e ≤ p + 65540) (within : e ≤ length s) (all : n ≤ length (places_of s p e)) (i : ℕ) (l : i < n) (m : List ℕ) (f : Marked s p e m) (j : ℕ) (room : 3 * j + 2 < length m) (few : before_at m j ≤ i) where
-  stands : ends (strings s (before_at m j) (first p e)) ≡ got tt (cursor_at s m j)
-  stands = f.at j room
+module _ (x : MarkedTable) (i j : ℕ) (l : i < x.table.count) (room : j < length x.marks.now) where
+  whole_there : Whole x.table.stream.now x.table.place x.table.count
+  whole_there = whole_table x.table (omega arith)
 
-  pub mark_low : segment_at m j + 4 ≤ length s
-  unfolding cursor_at
+  stands : Reaches x.table.stream.now x.table.place (before_at x.marks.now j) (cursor_at x.table.stream.now x.marks.now j)
+  stands = x.each whole_there.some j room
+
+  pub mark_low : segment_of (get_or x.marks.now j no_mark) + 4 ≤ length x.table.stream.now
+  unfolding cursor_of
   mark_low =
-      let c = cursor_at s m j in
-      let a = (low_after s p e (before_at m j) c till short stands).low in
-      let b = strings_inside s (before_at m j) (first p e) c (Moved.To c) (sym stands) refl (first_inside s p e i (omega arith) (low_end s p e till) within) in
-      let g = b.0 in
-      let h = b.1 in
+      let a = passed_low _ _ _ whole_there _ _ stands in
+      let h = passed_inside _ _ _ whole_there _ _ stands in
+      let b = h.0 in
+      let d = h.1 in
       omega arith
 
-  module _ (b : ℕ) (b-is : b ≡ before_at m j) (c : Cursor) (c-is : c ≡ cursor_at s m j) where
-    mark_here : ends (strings s b (first p e)) ≡ got tt c
-    mark_here = ap (λ (x : ℕ). ends (strings s x (first p e))) b-is ∙ stands ∙ ap (got tt) (sym c-is)
+  module _ (c : Cursor) (c-is : c ≡ cursor_at x.table.stream.now x.marks.now j) where
+    stands_there : Reaches x.table.stream.now x.table.place (before_at x.marks.now j) c
+    stands_there = subst⁻¹ (Reaches x.table.stream.now x.table.place (before_at x.marks.now j)) c-is stands
 
-    pub mark_inside : Inside s c
-    mark_inside = strings_inside s b (first p e) c (Moved.To c) (sym mark_here) refl (first_inside s p e i (omega arith) (low_end s p e till) within)
+    pub mark_inside : Inside x.table.stream.now c
+    mark_inside = passed_inside _ _ _ whole_there _ _ stands_there
 
-    module _ (r : Moved) (r-is : moved r ≡ ends (strings s (i - b) c)) where
-      mark_passed : moved r ≡ ends (strings s i (first p e))
-      mark_passed = let parts : b + (i - b) ≡ i = omega arith in r-is ∙ sym (strings_add s (i - b) c b (first p e) mark_here) ∙ ap (λ (x : ℕ). ends (strings s x (first p e))) parts
+    module _ (few : before_at x.marks.now j ≤ i) (r : Result Cursor Refusal) (r-is : moved r ≡ ends (strings x.table.stream.now (i - before_at x.marks.now j) c)) where
+      mark_passed : moved r ≡ ends (strings x.table.stream.now i (first x.table.place (end_at x.table.stream.now x.table.place)))
+      mark_passed =
+          let parts : before_at x.marks.now j + (i - before_at x.marks.now j) ≡ i = omega arith in
+          r-is
+          ∙ sym (strings_add x.table.stream.now (i - before_at x.marks.now j) c (before_at x.marks.now j) (first x.table.place (end_at x.table.stream.now x.table.place)) (reaches _ _ _ _ stands_there))
+          ∙ ap (λ (n : ℕ). ends (strings x.table.stream.now n (first x.table.place (end_at x.table.stream.now x.table.place)))) parts
 
-      pub mark_not : (a b : ℕ) → r ≡ Moved.Refused a b → ⊥
-      mark_not a b q = skipped_not s p e i (omega arith) (low_end s p e till) within r mark_passed a b q
+      pub mark_ok : IsOk r
+      mark_ok = skipped_ok _ _ _ i (there _ _ _ whole_there i l) (low _ _ _ whole_there) whole_there.within r mark_passed
 
-      module _ (a : Cursor) (q : r ≡ Moved.To a) where
-        pub mark_on : Inside s a
-        mark_on = skipped_inside s p e i (omega arith) (low_end s p e till) within r mark_passed a q
+      module _ (a : Cursor) (q : r ≡ Ok a) where
+        pub mark_on : Inside x.table.stream.now a
+        mark_on = skipped_inside _ _ _ i (there _ _ _ whole_there i l) (low _ _ _ whole_there) whole_there.within r mark_passed a q
 
-        module _ (z : Moved) (z-is : moved z ≡ next_place s a) where
-          pub place_not : (u v : ℕ) → z ≡ Moved.Refused u v → ⊥
-          place_not u v o = placed_not s p e i (omega arith) (low_end s p e till) within r mark_passed a q z z-is u v o
+        module _ (z : Result Cursor Refusal) (z-is : moved z ≡ next_place x.table.stream.now a) where
+          pub place_ok : IsOk z
+          place_ok = placed_ok _ _ _ i (there _ _ _ whole_there i l) (low _ _ _ whole_there) whole_there.within r mark_passed a q z z-is
 
-          pub place_there : (d : Cursor) → z ≡ Moved.To d → d ≡ place_of s p e i
-          place_there d o = placed s p e i (omega arith) (low_end s p e till) within r mark_passed a q z z-is d o
+          pub place_there : (d : Cursor) → z ≡ Ok d → d ≡ place_of x.table.stream.now x.table.place (end_at x.table.stream.now x.table.place) i
+          place_there d o = placed _ _ _ i (there _ _ _ whole_there i l) (low _ _ _ whole_there) whole_there.within r mark_passed a q z z-is d o
+
+-- ---- a link set
+module _ (m : List Mark) (j k : ℕ) (room : j < length m) where
+  abbrev pub linked : List Mark
+  linked = set m j (record (get_or m j no_mark) { link = k })
+
+  same_mark : {A : Type 0} (f : Mark → A) → f (record (get_or m j no_mark) { link = k }) ≡ f (get_or m j no_mark) → (l : ℕ) → f (get_or linked l no_mark) ≡ f (get_or m l no_mark)
+  same_mark f h l = by (eqb l j) refl
+    where
+      by : (b : Bool) → eqb l j ≡ b → f (get_or linked l no_mark) ≡ f (get_or m l no_mark)
+      by true q = let i = eqb-true l j q in ap (λ (o : ℕ). f (get_or linked o no_mark)) i ∙ ap f (get_or-set_same m j _ no_mark room) ∙ h ∙ ap (λ (o : ℕ). f (get_or m o no_mark)) (sym i)
+      by false q = let o = eqb-false l j q in ap f (get_or-set_other m j l _ no_mark o)
+
+  pub linked_kept : Kept m linked
+  unfolding cursor_of
+  linked_kept = record { size = length-set m j _; before = same_mark (λ x. x.before) refl; cursor = λ s. same_mark (cursor_of s) refl }
+
+  pub linked_here : link_at linked j ≡ k
+  linked_here = ap (λ (x : Mark). x.link) (get_or-set_same m j _ no_mark room)
+
+  pub linked_other : (l : ℕ) → (l ≡ j → ⊥) → link_at linked l ≡ link_at m l
+  linked_other l h = ap (λ (x : Mark). x.link) (get_or-set_other m j l _ no_mark h)

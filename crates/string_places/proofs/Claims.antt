@@ -16,22 +16,20 @@ use Rattle.record.specs.Record.{header_at}
 use Rattle.segments.specs.declared.Cursor.{Cursor}
 use Rattle.segments.specs.Segments.{Got, got, refused, list_of}
 use Rattle.segments.specs.Parts.{Passes}
-use Rattle.strings.specs.declared.Fetched.TheVariants as fetched
+use Rattle.std.specs.Prelude.{Result, Ok, Err}
+use Rattle.refusal.specs.declared.Refusal.{Refusal}
+use Rattle.refusal.specs.Refused.{refuse}
 use Rattle.strings.specs.Table.{string_at, units_at, nowhere, places_of, fetched_of, buffer_of}
 use Rattle.strings.proofs.Laws.{stands}
 use Rattle.globals.specs.declared.Globals.{Globals}
 use Rattle.globals.proofs.Table.{table_told}
-use Rattle.workbook.specs.declared.Checked.{Checked}
-use Rattle.workbook.specs.declared.Checked.TheVariants.{Right, Wrong}
-use Rattle.workbook.specs.Check.{checked_of, on_checked}
+use Rattle.workbook.specs.Check.{Checked, Right, checked_of, on_checked}
 use Rattle.workbook.proofs.Laws.{short}
 use Rattle.reading.specs.Reading.{strings_at}
 use Rattle.fetch.specs.Strings.{buffer_seen}
 use Rattle.fetch.specs.Fetch.{answer_in, answer_of, buffer_in, buffer_after}
 use Rattle.fetch.specs.Parts.{TableAt}
 use Rattle.fetch.proofs.Laws.{nth_there, nth_past, checked_globals, strings_none, strings_some}
-use Rattle.string_places.specs.declared.Filled.{Filled}
-use Rattle.string_places.specs.declared.Filled.TheVariants.{Strings, Refused}
 use Rattle.string_places.specs.Places.{numbers_of, unused, places_at, filled_of, table_of, fill_of, table_after, on_segment, string_by, fetched_by, through_of, buffer_through}
 use Rattle.string_places.specs.Parts.{Segment, count_of}
 use Rattle.string_places.specs.Claims.{FetchesAsPlain}
@@ -141,7 +139,7 @@ module _ (s : List ℕ) (p n : ℕ) (told : TableAt s p n) (small : length s ≤
       ap (on_units f d) (by_past i l) ∙ nth_past (λ c. f (units_at s c)) d places i l ∙ nth_map (units_at s) f d places i)
       ∙ ap (λ (x : List (List ℕ)). nth x i f d) (sym strings_are)
 
-fetched_units : (n : ℕ) (x : Got (List ℕ)) → fetched_by n x ≡ on_units (fetched_of n) (fetched.Refused 11 0) x
+fetched_units : (n : ℕ) (x : Got (List ℕ)) → fetched_by n x ≡ on_units (fetched_of n) (refuse 11 0) x
 fetched_units n (got us c) = refl
 fetched_units n (refused m o) = refl
 
@@ -155,18 +153,18 @@ module _ (s t : List ℕ) (u n : ℕ) where
     pub passes : checked_of s u ≡ Right globals
     pub room : 2 * length (places_at s globals.table) ≤ length t
 
-  by_room : (g : Globals) → checked_of s u ≡ Right g → filled_of (length t) (places_at s g.table) ≡ Strings n → Filling
+  by_room : (g : Globals) → checked_of s u ≡ Right g → filled_of (length t) (places_at s g.table) ≡ Ok n → Filling
   unfolding filled_of
   by_room g p h =
-      pick_by (λ (x : Filled). x ≡ Strings n → Filling) _
+      pick_by (λ (x : Result ℕ Refusal). x ≡ Ok n → Filling) _
       (λ _ i. never cc) (λ r _. record { globals = g; passes = p; room = ltb-false _ _ r }) h
 
-  by_check : (x : Checked) → checked_of s u ≡ x → on_checked Refused (λ (g : Globals). filled_of (length t) (places_at s g.table)) x ≡ Strings n → Filling
-  by_check (Right g) p h = by_room g p h
-  by_check (Wrong m o) p h = never cc
+  by_check : (x : Checked) → checked_of s u ≡ x → on_checked refuse (λ (g : Globals). filled_of (length t) (places_at s g.table)) x ≡ Ok n → Filling
+  by_check (Ok g) p h = by_room g p h
+  by_check (Err e) p h = never cc
 
   -- a filling that was granted
-  pub filling : fill_of s u t ≡ Strings n → Filling
+  pub filling : fill_of s u t ≡ Ok n → Filling
   unfolding fill_of
   filling h = by_check (checked_of s u) refl h
 
@@ -176,7 +174,7 @@ module _ (s t : List ℕ) (u n : ℕ) where
       ap (on_checked (λ _ _. t) (λ (g : Globals). table_of t (places_at s g.table))) f.passes
       ∙ sym (pick_nlt _ _ _ _ _ f.room refl)
 
-module _ (s t : List ℕ) (u n : ℕ) (h : fill_of s u t ≡ Strings n) (i : ℕ) (b : List ℕ) where
+module _ (s t : List ℕ) (u n : ℕ) (h : fill_of s u t ≡ Ok n) (i : ℕ) (b : List ℕ) where
   pub given : Filling s t u n
   given = filling s t u n h
 
@@ -201,7 +199,7 @@ module _ (s t : List ℕ) (u n : ℕ) (h : fill_of s u t ≡ Strings n) (i : ℕ
   through_filled =
       ap (λ (x : List ℕ). fetched_by (length b) (string_by s x i)) (table_filled s t u n given)
       ∙ fetched_units (length b) here
-      ∙ same_units s g.table _ told low further (fetched_of (length b)) (fetched.Refused 11 0) i
+      ∙ same_units s g.table _ told low further (fetched_of (length b)) (refuse 11 0) i
 
   pub buffer_filled : buffer_through s (table_after s u t) i b ≡ buffer_in s i b g
   unfolding buffer_through
@@ -214,6 +212,6 @@ pub fetches_as_plain : FetchesAsPlain
 unfolding answer_of buffer_after
 fetches_as_plain s t n h i b =
     let f = given s t 0 n h i b in (
-      through_filled s t 0 n h i b ∙ ap (on_checked fetched.Refused (answer_in s i b)) (sym f.passes),
+      through_filled s t 0 n h i b ∙ ap (on_checked refuse (answer_in s i b)) (sym f.passes),
       buffer_filled s t 0 n h i b ∙ ap (on_checked (λ _ _. b) (buffer_in s i b)) (sym f.passes),
     )

@@ -16,14 +16,12 @@ use Rattle.strings.proofs.Local.{right}
 use Rattle.strings.proofs.Laws.{strings_count}
 use Rattle.globals.specs.declared.Globals.{Globals}
 use Rattle.globals.proofs.Table.{Stands, TableTold, table_told}
-use Rattle.workbook.specs.declared.Checked.{Checked}
-use Rattle.workbook.specs.declared.Checked.TheVariants.{Right, Wrong}
-use Rattle.workbook.specs.Check.{checked_of, on_checked}
+use Rattle.workbook.specs.Check.{Checked, Right, checked_of}
 use Rattle.fetch.specs.Parts.{TableAt}
 use Rattle.fetch.proofs.Laws.{checked_globals}
-use Rattle.string_places.specs.declared.Filled.{Filled}
-use Rattle.string_places.specs.declared.Filled.TheVariants.{Strings, Refused}
-use Rattle.string_places.specs.Places.{numbers_of, unused, places_at, filled_of, table_of, fill_of, table_after}
+use Rattle.std.specs.Prelude.{Ok}
+use Rattle.refusal.specs.Refused.{refuse}
+use Rattle.string_places.specs.Places.{numbers_of, unused, places_at, filled_of, table_of}
 use Rattle.string_places.specs.Parts.{Segment, count_of}
 use Rattle.string_places.proofs.Standing.{sst_holds}
 
@@ -83,8 +81,6 @@ module _ (s : List ℕ) (p n : ℕ) (st : Stands s p n) (some : n ≡ 0 → ⊥)
         ∙ ap (λ (y : Got (List Cursor)). stored t 0 (numbers_of (list_of y))) whole_table.is
         ∙ ap (λ (l : List Cursor). stored t 0 (numbers_of l)) (sym (places_some s p st.later))
 
-pub ruleset some_laws = (some_inside, some_segment, some_passes, some_done)
-
 -- ---- as the check tells of a table
 pub places_count : (s : List ℕ) (p n : ℕ) → TableAt s p n → length (places_at s p) ≡ n
 places_count s p n (inl t) = ap length (places_none s p t.0) ∙ sym t.1
@@ -123,33 +119,28 @@ filled_numbers t y x l k is fits a b =
     ∙ append-nil (numbers_of l ++ replicate (length y - k) unused)
     ∙ ap (λ (m : ℕ). numbers_of l ++ replicate (m - k) unused) y-long
 
-module _ (s : List ℕ) (p n : ℕ) (told : TableAt s p n) (t : List ℕ) (w : ℕ) (wide : w ≡ n) where
-  twice : 2 * w ≡ 2 * length (places_at s p)
+module _ (s : List ℕ) (p n : ℕ) (told : TableAt s p n) (t : List ℕ) where
+  twice : 2 * n ≡ 2 * length (places_at s p)
   twice = let c = places_count s p n told in omega arith
 
-  pub fill_short : length t < 2 * w → Refused 12 0 ≡ filled_of (length t) (places_at s p)
+  pub fill_short : length t < 2 * n → refuse 12 0 ≡ filled_of (length t) (places_at s p)
   unfolding filled_of
   fill_short l = pick_lt _ _ _ (length t) (2 * length (places_at s p)) (let c = twice in omega arith) refl
 
-  pub table_short : length t < 2 * w → t ≡ table_of t (places_at s p)
+  pub table_short : length t < 2 * n → t ≡ table_of t (places_at s p)
   unfolding table_of
   table_short l = pick_lt _ _ _ (length t) (2 * length (places_at s p)) (let c = twice in omega arith) refl
 
-  module _ (fits : 2 * w ≤ length t) where
-    pub fill_done : Strings n ≡ filled_of (length t) (places_at s p)
+  module _ (fits : 2 * n ≤ length t) where
+    pub fill_done : Ok n ≡ filled_of (length t) (places_at s p)
     unfolding filled_of
-    fill_done = pick_nlt _ _ _ (length t) (2 * length (places_at s p)) (let c = twice in omega arith) (ap Strings (sym (places_count s p n told)))
+    fill_done = pick_nlt _ _ _ (length t) (2 * length (places_at s p)) (let c = twice in omega arith) (ap Ok (sym (places_count s p n told)))
 
-    pub table_done : (y x : List ℕ) → y ≡ stored t 0 (numbers_of (places_at s p)) → x ≡ stored y (2 * w) (replicate (length y - 2 * w) unused) → x ≡ table_of t (places_at s p)
+    pub table_done : (y x : List ℕ) → y ≡ stored t 0 (numbers_of (places_at s p)) → x ≡ stored y (2 * n) (replicate (length y - 2 * n) unused) → x ≡ table_of t (places_at s p)
     unfolding table_of
     table_done y x a b =
         pick_nlt _ _ _ (length t) (2 * length (places_at s p)) (let c = twice in omega arith)
-        (filled_numbers t y x (places_at s p) (2 * w) twice fits a b ∙ ap (λ (k : ℕ). numbers_of (places_at s p) ++ replicate (length t - k) unused) twice)
-
-pub fill_all : (s : List ℕ) (p n : ℕ) (t : List ℕ) (w : ℕ) → 2 * w ≤ length t → w ≡ n → TableAt s p n → Strings n ≡ filled_of (length t) (places_at s p)
-fill_all s p n t w fits wide told = fill_done s p n told t w wide fits
-
-pub ruleset fill_laws = (fill_short, table_short, fill_done, table_done)
+        (filled_numbers t y x (places_at s p) (2 * n) twice fits a b ∙ ap (λ (k : ℕ). numbers_of (places_at s p) ++ replicate (length t - k) unused) twice)
 
 pub unused_room : (t y : List ℕ) (l : List Cursor) (k : ℕ) → k ≤ length t → y ≡ stored t 0 (numbers_of l) → k ≤ length y
 unfolding stored
@@ -162,26 +153,5 @@ counted s u g k (inl t) h = inl (t.0, h ∙ sym (pick_eq _ _ _ _ _ t.0 refl))
 counted s u g k (inr st) h = let i : k ≡ g.unique = h ∙ sym (pick_ne _ _ _ g.table 0 (λ e. let l = st.later in omega arith) refl) in inr (subst⁻¹ (Stands s g.table) i st)
 
 module _ (s : List ℕ) (u : ℕ) {r : Checked} (is : r ≡ checked_of s u) where
-  pub fill_wrong : (t : List ℕ) (n o : ℕ) → r ≡ Wrong n o → Refused n o ≡ fill_of s u t
-  unfolding fill_of
-  fill_wrong t n o h = ap (on_checked Refused (λ (g : Globals). filled_of (length t) (places_at s g.table))) (sym h ∙ is)
-
-  pub table_wrong : (t : List ℕ) (n o : ℕ) → r ≡ Wrong n o → t ≡ table_after s u t
-  unfolding table_after
-  table_wrong t n o h = ap (on_checked (λ _ _. t) (λ (g : Globals). table_of t (places_at s g.table))) (sym h ∙ is)
-
-  module _ (g : Globals) (h : r ≡ Right g) where
-    pub table_at : (k : ℕ) → k ≡ count_of g.table g.unique → TableAt s g.table k
-    table_at k i = counted s u g k (table_told s u g (checked_globals s u g (sym h ∙ is))) i
-
-    pub fill_right : (t : List ℕ) (y : Filled) → y ≡ filled_of (length t) (places_at s g.table) → y ≡ fill_of s u t
-    unfolding fill_of
-    fill_right t y i = i ∙ ap (on_checked Refused (λ (g : Globals). filled_of (length t) (places_at s g.table))) (sym h ∙ is)
-
-    pub table_right : (t x : List ℕ) → x ≡ table_of t (places_at s g.table) → x ≡ table_after s u t
-    unfolding table_after
-    table_right t x i = i ∙ ap (on_checked (λ _ _. t) (λ (g : Globals). table_of t (places_at s g.table))) (sym h ∙ is)
-
-pub ruleset answer_laws = (fill_wrong, fill_right)
-
-pub ruleset after_laws = (table_wrong, table_right)
+  pub table_at : (g : Globals) → r ≡ Right g → (k : ℕ) → k ≡ count_of g.table g.unique → TableAt s g.table k
+  table_at g h k i = counted s u g k (table_told s u g (checked_globals s u g (sym h ∙ is))) i

@@ -14,7 +14,8 @@ use Rattle.record.specs.declared.Header.TheVariants.{Record, Cut, End}
 use Rattle.record.specs.Record.{header_at}
 use Rattle.record.proofs.Laws.{whole}
 use Rattle.segments.specs.declared.Cursor.{Cursor}
-use Rattle.segments.specs.declared.Moved.{Moved}
+use Rattle.std.specs.Prelude.{Result, Ok}
+use Rattle.refusal.specs.declared.Refusal.{Refusal}
 use Rattle.segments.specs.Segments.{Got, got, refused, then, push, on, continues, segment_of, next_segment, need, width_of, enter, room, items}
 use Rattle.segments.specs.Parts.{ends, moved, Passes}
 use Rattle.segments.proofs.Local.{refused_not}
@@ -109,13 +110,13 @@ module _ (s : List ℕ) where
   stays_ends (refused n o) h c q = absurd (refused_not q)
 
   -- as the calls give them
-  pub segment_place : (c d : Cursor) (m : Moved) → moved m ≡ next_place s c → m ≡ Moved.To d → Segment s c → Segment s d
+  pub segment_place : (c d : Cursor) (m : Result Cursor Refusal) → moved m ≡ next_place s c → m ≡ Ok d → Segment s c → Segment s d
   segment_place c d m p q h = stays_ends (next_place s c) (stays_place c h) d (go (next_place s c) (sym p ∙ ap moved q))
     where
       go : (x : Got Unit) → x ≡ got tt d → ends x ≡ got tt d
       go x i = ap ends i
 
-  pub segment_string : (c d : Cursor) (m : Moved) → moved m ≡ ends (string_at s c) → m ≡ Moved.To d → Segment s c → Segment s d
+  pub segment_string : (c d : Cursor) (m : Result Cursor Refusal) → moved m ≡ ends (string_at s c) → m ≡ Ok d → Segment s c → Segment s d
   segment_string c d m p q h = stays_ends (string_at s c) (stays_string c h) d (sym p ∙ ap moved q)
 
   -- string i of a table
@@ -123,7 +124,7 @@ module _ (s : List ℕ) where
   segment_of_lem p e i l h =
       let k = stands s p e i l in
       let f : Segment s k.from = stays_ends (strings s i (first p e)) (stays_strings i (first p e) h) k.from k.before in
-      segment_place k.from (place_of s p e i) (Moved.To (place_of s p e i)) (sym k.here) refl f
+      segment_place k.from (place_of s p e i) (Ok (place_of s p e i)) (sym k.here) refl f
 
   -- a string that is there has a head of three bytes at least
   pub string_head : (d : Cursor) → Passes (string_at s d) → d.at + 3 ≤ d.end

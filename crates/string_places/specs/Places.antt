@@ -1,5 +1,5 @@
 -- String places kept in a lent table of 32-bit numbers, filled once; and a string fetched through it.
-use Rattle.std.specs.Prelude.{ℕ, ◌+◌, ◌-◌, ◌*◌, List, [], ◌∷◌, ◌++◌, Bool, true, length, get_or, replicate, ltb, eqb}
+use Rattle.std.specs.Prelude.{ℕ, ◌+◌, ◌-◌, ◌*◌, List, [], ◌∷◌, ◌++◌, Bool, true, length, get_or, replicate, ltb, eqb, Result, Ok}
 use Rattle.steps.specs.Choice.{pick}
 use Rattle.byte_numbers.specs.Bytes.{u16_at}
 use Rattle.record.specs.declared.Header.{Header}
@@ -7,14 +7,12 @@ use Rattle.record.specs.declared.Header.TheVariants.{Record, Cut, End}
 use Rattle.record.specs.Record.{header_at}
 use Rattle.segments.specs.declared.Cursor.{Cursor}
 use Rattle.segments.specs.Segments.{Got, got, refused}
-use Rattle.strings.specs.declared.Fetched.{Fetched}
-use Rattle.strings.specs.declared.Fetched.TheVariants as fetched
+use Rattle.refusal.specs.declared.Refusal.{Refusal}
+use Rattle.refusal.specs.Refused.{refuse}
 use Rattle.strings.specs.Table.{string_at, places_of, fetched_of}
 use Rattle.globals.specs.declared.Globals.{Globals}
 use Rattle.workbook.specs.Check.{checked_of, on_checked}
 use Rattle.fetch.specs.Strings.{buffer_seen}
-use Rattle.string_places.specs.declared.Filled.{Filled}
-use Rattle.string_places.specs.declared.Filled.TheVariants.{Strings, Refused}
 
 -- ---- filling
 -- two numbers for each string: where its head starts, and the header of the record that it stands in
@@ -31,15 +29,15 @@ unfoldable pub places_at : List ℕ → ℕ → List Cursor
 places_at s p = pick (eqb p 0) [] (places_of s p (p + 4 + u16_at s (p + 2)))
 
 -- 12 exactly if the table has under two numbers for each string
-unfoldable pub filled_of : ℕ → List Cursor → Filled
-filled_of n l = pick (ltb n (2 * length l)) (Refused 12 0) (Strings (length l))
+unfoldable pub filled_of : ℕ → List Cursor → Result ℕ Refusal
+filled_of n l = pick (ltb n (2 * length l)) (refuse 12 0) (Ok (length l))
 
 unfoldable pub table_of : List ℕ → List Cursor → List ℕ
 table_of t l = pick (ltb (length t) (2 * length l)) t (numbers_of l ++ replicate (length t - 2 * length l) unused)
 
 -- the answer to a filling of table t, and the table after it; u is the unique count of strings where the stream has no SST
-unfoldable pub fill_of : List ℕ → ℕ → List ℕ → Filled
-fill_of s u t = on_checked Refused (λ (g : Globals). filled_of (length t) (places_at s g.table)) (checked_of s u)
+unfoldable pub fill_of : List ℕ → ℕ → List ℕ → Result ℕ Refusal
+fill_of s u t = on_checked refuse (λ (g : Globals). filled_of (length t) (places_at s g.table)) (checked_of s u)
 
 unfoldable pub table_after : List ℕ → ℕ → List ℕ → List ℕ
 table_after s u t = on_checked (λ _ _. t) (λ (g : Globals). table_of t (places_at s g.table)) (checked_of s u)
@@ -65,11 +63,11 @@ unfoldable pub string_by : List ℕ → List ℕ → ℕ → Got (List ℕ)
 string_by s t i = pick (ltb (2 * i + 1) (length t)) (on_segment s (get_or t (2 * i) 0) (get_or t (2 * i + 1) 0) (header_at s (get_or t (2 * i + 1) 0))) (refused 11 0)
 
 -- the answer, for a buffer of n units: 11 also where reading the whole string would meet 2 or 8; then 12
-abbrev pub fetched_by : ℕ → Got (List ℕ) → Fetched
+abbrev pub fetched_by : ℕ → Got (List ℕ) → Result ℕ Refusal
 fetched_by n (got us c) = fetched_of n us
-fetched_by n (refused m o) = fetched.Refused 11 0
+fetched_by n (refused m o) = refuse 11 0
 
-unfoldable pub through_of : List ℕ → List ℕ → ℕ → List ℕ → Fetched
+unfoldable pub through_of : List ℕ → List ℕ → ℕ → List ℕ → Result ℕ Refusal
 through_of s t i b = fetched_by (length b) (string_by s t i)
 
 -- the buffer after it

@@ -3,52 +3,32 @@ use Prim.Native.Nat.{ℕ, zero, suc, ◌+◌, ◌-◌, ◌*◌, ◌≤◌, ◌<�
 use mathlib.Core.Path.{◌≡◌, refl, sym, ap, ◌∙◌, subst, subst⁻¹}
 use mathlib.Core.List.{List, ◌∷◌, ◌++◌}
 use mathlib.Core.Bool.{true, false}
+use Rattle.std.specs.Prelude.{Result, Ok, Err, IsOk}
 use native.Mathlib.Omega.{arith}
 use native.Mathlib.Nat.{zero-add, div-one}
 use lib.ListN.{length, get_or, drop}
 use lib.Seq.{sets, sets-eq}
 use lib.Dec.{eqb}
 use borrow.Author.Tests.{eqb-false}
-use Rattle.steps.proofs.Choice.{pick_by, pick_ne, pick_lt, pick_nlt, refl'}
+use Rattle.steps.proofs.Choice.{pick_by, pick_ne, pick_lt, pick_nlt}
 use Rattle.byte_numbers.specs.Bytes.{byte_at, u16_at, u32_at}
+use Rattle.refusal.specs.declared.Refusal.{Refusal}
+use Rattle.refusal.specs.Refused.{refuse}
 use Rattle.segments.specs.declared.Cursor.{Cursor}
-use Rattle.segments.specs.declared.Moved.{Moved}
 use Rattle.segments.specs.Segments.{Got, got, refused, then, push, list_of, on, filled, need, width_of, items}
 use Rattle.segments.specs.Parts.{Inside, ends, moved, Passes, stored}
-use Rattle.segments.proofs.Local.{refused_not, Within, within_from}
-use Rattle.segments.proofs.Laws.{ends_to, ends_refused, ends_inside, items_inside, ends_push, skip_all, Count, count_items}
+use Rattle.segments.proofs.Local.{Within, within_from}
+use Rattle.segments.proofs.Laws.{moved_got, ends_then, ends_inside, items_inside, ends_push, skip_all, Count, count_items}
 use Rattle.strings.specs.declared.Head.{Head}
 use Rattle.strings.specs.declared.HeadRead.{HeadRead}
-use Rattle.strings.specs.declared.Strings.{Strings}
-use Rattle.strings.specs.declared.Fetched.{Fetched}
+use Rattle.strings.specs.declared.Table.{Table}
 use Rattle.strings.specs.Table.{phonetic_bit, rich_bit, head_size, runs_at, phonetic_at, head_at, start_size, head, rest, string_at, units_at, next_place, strings, first, table_of, places_of, nowhere, place_of, answer_of, fetched_of, buffer_of}
 use Rattle.strings.specs.Parts.{head_read, next_string, Plain}
 use Rattle.strings.proofs.Local.{start_size_low, reads_head, reads_string, reads_place, reads_strings, Right, right}
 
 -- ---- a string's head
-pub phonetic_read : (s : List ℕ) (p flags r x y : ℕ) → x ≡ y → y ≡ u32_at s (p + 3 + 2 * r) → r ≡ rich_bit flags → x ≡ u32_at s (p + 3 + 2 * rich_bit flags)
-phonetic_read s p flags r x y a b c = cc
-
-pub size_read : (flags r v : ℕ) → r ≡ head_size flags → v ≡ width_of flags → r + v ≡ head_size flags + width_of flags
-size_read flags r v a b = cc
-
--- a test of what is left of the segment against w, which a call gave as r
-module _ {A : Type 0} (w r : ℕ) (is : r ≡ w) (d : Cursor) (k : ℕ → Cursor → Got A) (y : Got A) where
-  pub need_short : d.end - d.at < r → y ≡ refused 8 d.seg → y ≡ then (need 8 w d) k
-  unfolding need
-  need_short h e = e ∙ ap (λ (x : Got ℕ). then x k) (pick_lt (refused 8 d.seg) _ _ _ _ (rw is at h) refl)
-
-  pub need_whole : r ≤ d.end - d.at → y ≡ k w d → y ≡ then (need 8 w d) k
-  unfolding need
-  need_whole h e = e ∙ ap (λ (x : Got ℕ). then x k) (pick_nlt (got w d) _ _ _ _ (rw is at h) refl)
-
-pub head_got : (s : List ℕ) (p size : ℕ) (d : Cursor) (h : Head) → h ≡ head_at s p → size ≡ head_size (byte_at s (p + 2)) → got h (on d size) ≡ got (head_at s p) (on d (head_size (byte_at s (p + 2))))
-head_got s p size d h a b = rw (a, b)
-
 pub head_within : (s : List ℕ) (d : Cursor) (r : ℕ) → Inside s d → r ≡ start_size s d.at → r ≤ d.end - d.at → 3 ≤ d.end - d.at → d.at + head_size (byte_at s (d.at + 2)) ≤ length s
 head_within s d r inside is h l = let i = start_size_low s d.at in omega arith
-
-pub ruleset head_laws = (need_short, need_whole, head_got, head_within, refl')
 
 -- ---- what is read of one stream, which has the same bytes as itself
 module _ (s : List ℕ) where
@@ -80,20 +60,20 @@ module _ (s : List ℕ) where
       go (got v c) = whole (need 8 (start_size s c.at) c)
       go (refused n o) = tt
 
-  module _ (d c : Cursor) (h : Head) (r : HeadRead) (is : head_read r ≡ head s d) (q : r ≡ HeadRead.Whole h c) where
-    head_is : head s d ≡ got h c
+  module _ (d : Cursor) (y : HeadRead) (r : Result HeadRead Refusal) (is : head_read r ≡ head s d) (q : r ≡ Ok y) where
+    head_is : head s d ≡ got y.head y.chars
     head_is = sym is ∙ ap head_read q
 
-    pub head_inside : Inside s d → Inside s c
-    head_inside inside = let w : Within s d (got h c) = subst (Within s d) head_is (within_head d inside) in w.0
+    pub head_inside : Inside s d → Inside s y.chars
+    head_inside inside = let w : Within s d (got y.head y.chars) = subst (Within s d) head_is (within_head d inside) in w.0
 
-    pub head_some : 1 ≤ h.width
-    head_some = let w : Width (got h c) = subst Width head_is (width d) in w.0
+    pub head_some : 1 ≤ y.head.width
+    head_some = let w : Width (got y.head y.chars) = subst Width head_is (width d) in w.0
 
-    pub head_small : h.width ≤ 2
-    head_small = let w : Width (got h c) = subst Width head_is (width d) in w.1
+    pub head_small : y.head.width ≤ 2
+    head_small = let w : Width (got y.head y.chars) = subst Width head_is (width d) in w.1
 
-  pub place_inside : (c d : Cursor) (m : Moved) → moved m ≡ next_place s c → m ≡ Moved.To d → Inside s c → Inside s d
+  pub place_inside : (c d : Cursor) (m : Result Cursor Refusal) → moved m ≡ next_place s c → m ≡ Ok d → Inside s c → Inside s d
   place_inside c d m p q inside = let e : next_place s c ≡ got tt d = sym p ∙ ap moved q in (subst (Within s c) e (within_place c inside)).0
 
   within_next : (c : Cursor) → Inside s c → Within s c (next_string s c)
@@ -104,71 +84,50 @@ module _ (s : List ℕ) where
       go (got u d) w = within_from s c d (string_at s d) w.1 w.2 (within_string d w.0)
       go (refused n o) w = tt
 
-  pub next_inside : (c d : Cursor) (m : Moved) → moved m ≡ ends (next_string s c) → m ≡ Moved.To d → Inside s c → Inside s d
+  pub next_inside : (c d : Cursor) (m : Result Cursor Refusal) → moved m ≡ ends (next_string s c) → m ≡ Ok d → Inside s c → Inside s d
   next_inside c d m p q inside = ends_inside s c d (next_string s c) m (within_next c inside) p q
 
-  pub strings_inside : (n : ℕ) (c d : Cursor) (m : Moved) → moved m ≡ ends (strings s n c) → m ≡ Moved.To d → Inside s c → Inside s d
+  pub strings_inside : (n : ℕ) (c d : Cursor) (m : Result Cursor Refusal) → moved m ≡ ends (strings s n c) → m ≡ Ok d → Inside s c → Inside s d
   strings_inside n c d m p q inside = ends_inside s c d (strings s n c) m (within_strings n c inside) p q
 
 pub ruleset inside_laws = (items_inside, head_inside, head_some, head_small, place_inside, next_inside, strings_inside)
 
 -- ---- past a string, part by part
-ends_last : {A B : Type 0} (x : Got A) (u : B) (y : Got Unit) → y ≡ ends x → y ≡ ends (then x (λ _ i. got u i))
-ends_last (got a c) u y h = h
-ends_last (refused a b) u y h = h
-
-module _ (s : List ℕ) (h : Head) (c : Cursor) (m : Moved) (is : moved m ≡ ends (items 8 s false 4 h.runs c)) (y : Got Unit) where
-  pub rest_to : (d : Cursor) → m ≡ Moved.To d → y ≡ ends (items 8 s false 1 h.phonetic d) → y ≡ ends (rest s h c)
+module _ (s : List ℕ) where
+  pub rest_ends : (h : Head) (c : Cursor) → ends (rest s h c) ≡ then (ends (items 8 s false 4 h.runs c)) (λ _ d. ends (items 8 s false 1 h.phonetic d))
   unfolding rest
-  rest_to d q i = ends_to (items 8 s false 4 h.runs c) (λ _ e. items 8 s false 1 h.phonetic e) y m is d q (λ _. i)
+  rest_ends h c = ends_then (items 8 s false 4 h.runs c) (λ d. items 8 s false 1 h.phonetic d)
 
-  pub rest_refused : (a b : ℕ) → m ≡ Moved.Refused a b → y ≡ refused a b → y ≡ ends (rest s h c)
-  unfolding rest
-  rest_refused a b q i = ends_refused (items 8 s false 4 h.runs c) (λ _ e. items 8 s false 1 h.phonetic e) y m is a b q i
+  chars_ends : (h : Head) (x : Got (List ℕ)) → ends (then x (λ us e. then (rest s h e) (λ _ i. got us i))) ≡ then (ends x) (λ _ e. ends (rest s h e))
+  chars_ends h (got us e) = by (rest s h e)
+    where
+      by : (y : Got (List ℕ)) → ends (then y (λ _ i. got us i)) ≡ ends y
+      by (got l i) = refl
+      by (refused n o) = refl
+  chars_ends h (refused n o) = refl
 
-module _ (s : List ℕ) (d : Cursor) (r : HeadRead) (is : head_read r ≡ head s d) (y : Got Unit) where
-  pub head_refused : (a b : ℕ) → r ≡ HeadRead.Refused a b → y ≡ refused a b → y ≡ ends (string_at s d)
+  pub string_ends : (d : Cursor) → ends (string_at s d) ≡ then (head s d) (λ h c. then (ends (items 8 s true h.width h.chars c)) (λ _ e. ends (rest s h e)))
   unfolding string_at
-  head_refused a b q i = rw (← is, q) i
+  string_ends d = by (head s d)
+    where
+      by : (x : Got Head) → ends (then x (λ h c. then (items 8 s true h.width h.chars c) (λ us e. then (rest s h e) (λ _ i. got us i)))) ≡ then x (λ h c. then (ends (items 8 s true h.width h.chars c)) (λ _ e. ends (rest s h e)))
+      by (got h c) = chars_ends h (items 8 s true h.width h.chars c)
+      by (refused n o) = refl
 
-  module _ (h : Head) (c : Cursor) (q : r ≡ HeadRead.Whole h c) (m : Moved) (k : moved m ≡ ends (items 8 s true h.width h.chars c)) where
-    pub chars_refused : (a b : ℕ) → m ≡ Moved.Refused a b → y ≡ refused a b → y ≡ ends (string_at s d)
-    unfolding string_at
-    chars_refused a b t i = rw (← is, q) (ends_refused (items 8 s true h.width h.chars c) _ y m k a b t i)
-
-    pub chars_to : (e : Cursor) → m ≡ Moved.To e → y ≡ ends (rest s h e) → y ≡ ends (string_at s d)
-    unfolding string_at
-    chars_to e t i = rw (← is, q) (ends_to (items 8 s true h.width h.chars c) _ y m k e t (λ us. ends_last (rest s h e) us y i))
-
-module _ (s : List ℕ) (c : Cursor) (m : Moved) (is : moved m ≡ next_place s c) (y : Got Unit) where
-  pub next_to : (d : Cursor) → m ≡ Moved.To d → y ≡ ends (string_at s d) → y ≡ ends (next_string s c)
+  pub next_ends : (c : Cursor) → ends (next_string s c) ≡ then (next_place s c) (λ _ d. ends (string_at s d))
   unfolding next_string
-  next_to d q i = rw (← is, q) i
-
-  pub next_refused : (a b : ℕ) → m ≡ Moved.Refused a b → y ≡ refused a b → y ≡ ends (next_string s c)
-  unfolding next_string
-  next_refused a b q i = rw (← is, q) i
-
-pub ruleset string_laws = (rest_to, rest_refused, head_refused, chars_refused, chars_to, next_to, next_refused, refl')
+  next_ends c = by (next_place s c)
+    where
+      by : (x : Got Unit) → ends (then x (λ _ d. string_at s d)) ≡ then x (λ _ d. ends (string_at s d))
+      by (got u d) = refl
+      by (refused n o) = refl
 
 -- ---- a plain string
 abbrev plain_head : ℕ → Head
 plain_head n = record { chars = n; width = 1; runs = 0; phonetic = 0 }
 
-pub plain_none : (s : List ℕ) (c : Cursor) → Plain s c 0
-plain_none s c = record { within = omega arith; next = λ o. absurd (o refl) }
-
-module _ (s : List ℕ) (c : Cursor) (here flags width rich phonetic chars n : ℕ) (room : here ≡ c.end - c.at) (is : flags ≡ byte_at s (c.at + 2)) (w-is : width ≡ width_of flags) (r-is : rich ≡ rich_bit flags) (p-is : phonetic ≡ phonetic_bit flags)
-    (narrow : width ≡ 1) (no-runs : rich ≡ 0) (no-phonetic : phonetic ≡ 0) (c-is : chars ≡ u16_at s c.at) (wide : n ≡ chars) (fits : 3 + n ≤ here) where
-  flags_narrow : width_of (byte_at s (c.at + 2)) ≡ 1
-  flags_narrow = ap width_of (sym is) ∙ sym w-is ∙ narrow
-
-  flags_rich : rich_bit (byte_at s (c.at + 2)) ≡ 0
-  flags_rich = ap rich_bit (sym is) ∙ sym r-is ∙ no-runs
-
-  flags_phonetic : phonetic_bit (byte_at s (c.at + 2)) ≡ 0
-  flags_phonetic = ap phonetic_bit (sym is) ∙ sym p-is ∙ no-phonetic
-
+module _ (s : List ℕ) (c : Cursor) (n : ℕ) (flags_narrow : width_of (byte_at s (c.at + 2)) ≡ 1) (flags_rich : rich_bit (byte_at s (c.at + 2)) ≡ 0) (flags_phonetic : phonetic_bit (byte_at s (c.at + 2)) ≡ 0)
+    (chars-is : n ≡ u16_at s c.at) (fits : 3 + n ≤ c.end - c.at) where
   head_three : head_size (byte_at s (c.at + 2)) ≡ 3
   head_three = let a = flags_rich in let b = flags_phonetic in omega arith
 
@@ -177,9 +136,9 @@ module _ (s : List ℕ) (c : Cursor) (here flags width rich phonetic chars n : �
   start_low =
       pick_by (λ (k : ℕ). k ≤ 3 + n) (eqb (u16_at s c.at) 0)
       (λ _. let a = head_three in omega arith)
-      (λ e. let a = head_three in let b = flags_narrow in let o = eqb-false (u16_at s c.at) 0 e in some (u16_at s c.at) (c-is) o (omega arith))
+      (λ e. let a = head_three in let b = flags_narrow in let o = eqb-false (u16_at s c.at) 0 e in some (u16_at s c.at) chars-is o (omega arith))
     where
-      some : (m : ℕ) → chars ≡ m → (m ≡ 0 → ⊥) → head_size (byte_at s (c.at + 2)) + width_of (byte_at s (c.at + 2)) ≡ 4 → head_size (byte_at s (c.at + 2)) + width_of (byte_at s (c.at + 2)) ≤ 3 + n
+      some : (m : ℕ) → n ≡ m → (m ≡ 0 → ⊥) → head_size (byte_at s (c.at + 2)) + width_of (byte_at s (c.at + 2)) ≡ 4 → head_size (byte_at s (c.at + 2)) + width_of (byte_at s (c.at + 2)) ≤ 3 + n
       some m i o j = omega arith
 
   head_plain : head s c ≡ got (plain_head n) (on c 3)
@@ -189,33 +148,29 @@ module _ (s : List ℕ) (c : Cursor) (here flags width rich phonetic chars n : �
       ∙ sym (ap (λ (x : Got ℕ). then x (λ _ e. got (head_at s e.at) (on e (head_size (byte_at s (e.at + 2)))))) (pick_nlt (got (start_size s c.at) c) _ _ (c.end - c.at) (start_size s c.at) (let l = start_low in omega arith) refl))
       ∙ (let a = sym (pick_ne 0 (u16_at s (c.at + 3)) 0 (rich_bit (byte_at s (c.at + 2))) 1 (λ e. let r = flags_rich in omega arith) refl) in
       let b = sym (pick_ne 0 (u32_at s (c.at + 3 + 2 * rich_bit (byte_at s (c.at + 2)))) 0 (phonetic_bit (byte_at s (c.at + 2))) 1 (λ e. let p = flags_phonetic in omega arith) refl) in
-      let m = sym (wide ∙ c-is) in
+      let m = sym chars-is in
       λ i. got (record { chars = m i; width = flags_narrow i; runs = a i; phonetic = b i }) (on c (head_three i)))
 
   place_plain : next_place s c ≡ got tt c
   unfolding next_place
   place_plain = sym (pick_ne (got tt c) _ _ c.at c.end (λ e. omega arith) refl)
 
-  after_chars : (us : List ℕ) (e : Cursor) → got tt e ≡ ends (then (rest s (plain_head n) e) (λ _ i. got us i))
+  rest_plain : (e : Cursor) → ends (rest s (plain_head n) e) ≡ got tt e
   unfolding rest items
-  after_chars us e = refl
+  rest_plain e = refl
 
   pub plain_there : Plain s c (3 + n)
-  unfolding next_string string_at
   plain_there = record {
     within = omega arith;
-    next = λ _.
-        (let j : on c (3 + n) ≡ on (on c 3) (n * 1) = (let k : c.at + (3 + n) ≡ c.at + 3 + n * 1 = omega arith in λ i. record { seg = c.seg; at = k i; end = c.end }) in ap (got tt) j)
-        ∙ ends_to (items 8 s true 1 n (on c 3)) (λ us e. then (rest s (plain_head n) e) (λ _ i. got us i)) (got tt (on (on c 3) (n * 1))) (Moved.To (on (on c 3) (n * 1)))
-        (skip_all s 1 n (on c 3) (c.end - (c.at + 3)) (sym (div-one (c.end - (c.at + 3)))) (omega arith) 8 true (omega arith)) (on (on c 3) (n * 1)) refl (λ us. after_chars us (on (on c 3) (n * 1)))
-        ∙ ap (λ (x : Got Head). ends (then x (λ h d. then (items 8 s true h.width h.chars d) (λ us e. then (rest s h e) (λ _ i. got us i))))) (sym head_plain)
-        ∙ ap (λ (x : Got Unit). ends (then x (λ _ d. string_at s d))) (sym place_plain);
+    next =
+        let last = on (on c 3) (n * 1) in
+        let end-is : on c (3 + n) ≡ last = (let k : c.at + (3 + n) ≡ c.at + 3 + n * 1 = omega arith in λ i. record { seg = c.seg; at = k i; end = c.end }) in
+        ap (got tt) end-is
+        ∙ sym (next_ends s c ∙ ap (λ (x : Got Unit). then x (λ _ d. ends (string_at s d))) place_plain
+        ∙ string_ends s c ∙ ap (λ (x : Got Head). then x (λ h d. then (ends (items 8 s true h.width h.chars d)) (λ _ e. ends (rest s h e)))) head_plain
+        ∙ ap (λ (x : Got Unit). then x (λ _ e. ends (rest s (plain_head n) e))) (sym (skip_all s 1 n (on c 3) (c.end - (c.at + 3)) (sym (div-one (c.end - (c.at + 3)))) (omega arith) 8 true (omega arith)))
+        ∙ rest_plain last);
   }
-
-pub skip_plain : (s : List ℕ) (c : Cursor) (n : ℕ) → Plain s c n → (n ≡ 0 → ⊥) → got tt (record { seg = c.seg; at = c.at + n; end = c.end }) ≡ ends (next_string s c)
-skip_plain s c n p o = p.next o
-
-pub ruleset plain_laws = (plain_none, plain_there)
 
 -- ---- past n strings
 strings_next : (s : List ℕ) (n : ℕ) (c : Cursor) → ends (strings s (suc n) c) ≡ ends (then (next_string s c) (λ _ e. strings s n e))
@@ -230,22 +185,14 @@ strings_next s n c = at_place (next_place s c)
     at_place (got u d) = at_string d (string_at s d)
     at_place (refused a b) = refl
 
-module _ (s : List ℕ) (n : ℕ) (c : Cursor) (x : Got Unit) (inv : x ≡ ends (strings s n c)) where
-  pub strings_end : n ≡ 0 → got tt c ≡ x
-  unfolding strings
-  strings_end i = sym (inv ∙ ap (λ (m : ℕ). ends (strings s m c)) i)
+pub strings_none : (s : List ℕ) (n i : ℕ) (c : Cursor) → n ≤ i → ends (strings s (n - i) c) ≡ got tt c
+unfolding strings
+strings_none s n i c h = let e : n - i ≡ 0 = omega arith in ap (λ (m : ℕ). ends (strings s m c)) e
 
-  module _ (m : Moved) (is : moved m ≡ ends (next_string s c)) (i : n ≡ 0 → ⊥) where
-    next : x ≡ ends (then (next_string s c) (λ _ e. strings s (n - 1) e))
-    next = let e : n ≡ suc (n - 1) = omega arith in inv ∙ ap (λ (m : ℕ). ends (strings s m c)) e ∙ strings_next s (n - 1) c
-
-    pub strings_refused : (a b : ℕ) → m ≡ Moved.Refused a b → refused a b ≡ x
-    strings_refused a b h = ends_refused (next_string s c) (λ _ e. strings s (n - 1) e) (refused a b) m is a b h refl ∙ sym next
-
-    pub strings_turn : (d : Cursor) → m ≡ Moved.To d → x ≡ ends (strings s (n - 1) d)
-    strings_turn d h = next ∙ sym (ends_to (next_string s c) (λ _ e. strings s (n - 1) e) (ends (strings s (n - 1) d)) m is d h (λ _. refl))
-
-pub ruleset strings_laws = (strings_end, strings_refused, strings_turn, next_inside)
+pub strings_left : (s : List ℕ) (n i : ℕ) (c : Cursor) → i < n → ends (strings s (n - i) c) ≡ then (ends (next_string s c)) (λ _ e. ends (strings s (n - (i + 1)) e))
+strings_left s n i c h =
+    let e : n - i ≡ suc (n - (i + 1)) = omega arith in
+    ap (λ (m : ℕ). ends (strings s m c)) e ∙ strings_next s (n - (i + 1)) c ∙ ends_then (next_string s c) (λ d. strings s (n - (i + 1)) d)
 
 -- ---- string i stands at d: it is come to after i strings from c on
 pub record Stands (s : List ℕ) (i : ℕ) (c d : Cursor) : Type 0 where
@@ -297,42 +244,30 @@ listed s (suc n) c = at_place (λ e. listed s n e) (next_place s c) refl
 pub strings_count : (s : List ℕ) (n : ℕ) (c : Cursor) (l : List Cursor) (d : Cursor) → strings s n c ≡ got l d → length l ≡ n
 strings_count s n c l d h = let k : Listed s n c (got l d) = subst (Listed s n c) h (listed s n c) in k.0
 
--- ---- the check of a table: m is where its strings end
-module _ (s : List ℕ) (p e : ℕ) where
-  pub table_short : e - (p + 4) < 8 → Strings.Refused 8 p ≡ answer_of (table_of s p e)
-  unfolding table_of
-  table_short h = ap answer_of (pick_lt (refused 8 p) (refused 8 p) _ _ _ h refl)
+-- ---- the check of a table goes by where its strings end
+abbrev pub answer_by : ℕ → Got Unit → Result Table Refusal
+answer_by n (got u d) = Ok (record { strings = n; end = d.end })
+answer_by n (refused k o) = refuse k o
 
-  module _ (long : 8 ≤ e - (p + 4)) (n x : ℕ) (n-is : n ≡ x) (x-is : x ≡ u32_at s (p + 8)) (m : Moved) (is : moved m ≡ ends (strings s n (first p e))) where
-    table_by : answer_of (then (strings s n (first p e)) (λ l c. then (filled 8 s c) (λ _ d. got l d))) ≡ answer_of (table_of s p e)
-    unfolding table_of
-    table_by = ap answer_of (pick_nlt _ (refused 8 p) _ _ _ long (ap (λ (k : ℕ). then (strings s k (first p e)) (λ l c. then (filled 8 s c) (λ _ d. got l d))) (n-is ∙ x-is)))
+pub table_answer : (s : List ℕ) (p e : ℕ) → 8 ≤ e - (p + 4)
+    → answer_of (table_of s p e) ≡ answer_by (u32_at s (p + 8)) (then (ends (strings s (u32_at s (p + 8)) (first p e))) (λ _ c. filled 8 s c))
+unfolding table_of
+table_answer s p e h = ap answer_of (sym (pick_nlt _ _ _ _ _ h refl)) ∙ at_strings (strings s n (first p e)) (listed s n (first p e))
+  where
+    n : ℕ
+    n = u32_at s (p + 8)
 
-    pub table_refused : (a b : ℕ) → m ≡ Moved.Refused a b → Strings.Refused a b ≡ answer_of (table_of s p e)
-    table_refused a b h = by (strings s n (first p e)) (sym is ∙ ap moved h) ∙ table_by
-      where
-        by : (y : Got (List Cursor)) → ends y ≡ refused a b → Strings.Refused a b ≡ answer_of (then y (λ l c. then (filled 8 s c) (λ _ d. got l d)))
-        by (got l c) i = absurd (refused_not (sym i))
-        by (refused a' b') i = cc
+    at_filled : (l : List Cursor) → length l ≡ n → (x : Got Unit) → answer_of (then x (λ _ d. got l d)) ≡ answer_by n x
+    at_filled l h (got u d) = ap (λ (k : ℕ). Ok (record { strings = k; end = d.end })) h
+    at_filled l h (refused k o) = refl
 
-    module _ (d : Cursor) (h : m ≡ Moved.To d) (r : Moved) (q : moved r ≡ filled 8 s d) where
-      table_to : (y : Strings) → ((l : List Cursor) → length l ≡ n → y ≡ answer_of (then (moved r) (λ _ g. got l g))) → y ≡ answer_of (table_of s p e)
-      table_to y k = by (strings s n (first p e)) (sym is ∙ ap moved h) (listed s n (first p e)) ∙ table_by
-        where
-          by : (z : Got (List Cursor)) → ends z ≡ got tt d → Listed s n (first p e) z → y ≡ answer_of (then z (λ l c. then (filled 8 s c) (λ _ d. got l d)))
-          by (got l c) i o = let j : ◌≡◌ {A = Cursor} d c = cc in k l o.0 ∙ ap (λ (x : Got Unit). answer_of (then x (λ _ g. got l g))) (q ∙ ap (filled 8 s) j)
-          by (refused a b) i o = absurd (refused_not i)
+    at_strings : (x : Got (List Cursor)) → Listed s n (first p e) x → answer_of (then x (λ l c. then (filled 8 s c) (λ _ d. got l d))) ≡ answer_by n (then (ends x) (λ _ c. filled 8 s c))
+    at_strings (got l c) k = at_filled l k.0 (filled 8 s c)
+    at_strings (refused k o) _ = refl
 
-      pub table_unfilled : (a b : ℕ) → r ≡ Moved.Refused a b → Strings.Refused a b ≡ answer_of (table_of s p e)
-      table_unfilled a b t = table_to (Strings.Refused a b) (λ l _. rw t refl)
-
-      pub table_done : (g : Cursor) → r ≡ Moved.To g → Strings.Table x g.end ≡ answer_of (table_of s p e)
-      table_done g t = ap (λ (k : ℕ). Strings.Table k g.end) (sym n-is) ∙ table_to (Strings.Table n g.end) (λ l o. rw (t, o) refl)
-
-  pub table_inside : p + 4 ≤ e → e ≤ length s → 8 ≤ e - (p + 4) → (n : ℕ) (m : Moved) (d : Cursor) → moved m ≡ ends (strings s n (first p e)) → m ≡ Moved.To d → Inside s d
-  table_inside low within long n m d is h = strings_inside s n (first p e) d m is h (omega arith, omega arith)
-
-pub ruleset table_laws = (table_refused, table_unfilled, table_done, table_inside)
+pub table_short : (s : List ℕ) (p e : ℕ) → e - (p + 4) < 8 → answer_of (table_of s p e) ≡ refuse 8 p
+unfolding table_of
+table_short s p e h = ap answer_of (sym (pick_lt (refused 8 p) (refused 8 p) _ _ _ h refl))
 
 -- ---- a table that is not refused
 pub record Accepted (s : List ℕ) (p e : ℕ) : Type 0 where
@@ -342,23 +277,23 @@ pub record Accepted (s : List ℕ) (p e : ℕ) : Type 0 where
 accepted_by : (s : List ℕ) (p e : ℕ) (l : List Cursor) (c : Cursor) → table_of s p e ≡ got l c → Accepted s p e
 accepted_by s p e l c q = record { after = c; is = q ∙ ap (λ (x : Got (List Cursor)). got (list_of x) c) (sym q) }
 
--- since it was checked: r is what the check gave
-module _ (s : List ℕ) (p e : ℕ) (r : Strings) (is : r ≡ answer_of (table_of s p e)) (n end : ℕ) (q : r ≡ Strings.Table n end) where
+-- since it was checked: t is what the check gave
+module _ (s : List ℕ) (p e : ℕ) (t : Table) (is : Ok t ≡ answer_of (table_of s p e)) where
   pub accepted : Accepted s p e
-  accepted = go (table_of s p e) refl (sym is ∙ q)
+  accepted = go (table_of s p e) refl is
     where
-      go : (x : Got (List Cursor)) → table_of s p e ≡ x → answer_of x ≡ Strings.Table n end → Accepted s p e
+      go : (x : Got (List Cursor)) → table_of s p e ≡ x → Ok t ≡ answer_of x → Accepted s p e
       go (got l c) h k = accepted_by s p e l c h
-      go (refused a b) h k = absurd (let z : ◌≡◌ {A = ℕ} 0 1 = cc in omega arith)
+      go (refused a b) h k = cc
 
-  answer_is : Strings.Table (length (places_of s p e)) accepted.after.end ≡ Strings.Table n end
-  answer_is = ap answer_of (sym accepted.is) ∙ sym is ∙ q
+  answer_is : record { strings = length (places_of s p e); end = accepted.after.end } ≡ t
+  answer_is = let h : Ok (record { strings = length (places_of s p e); end = accepted.after.end }) ≡ Ok t = ap answer_of (sym accepted.is) ∙ sym is in cc
 
-  pub checked_count : length (places_of s p e) ≡ n
-  checked_count = let z = answer_is in cc
+  pub checked_count : length (places_of s p e) ≡ t.strings
+  checked_count = ap (λ (z : Table). z.strings) answer_is
 
-  pub checked_end : accepted.after.end ≡ end
-  checked_end = let z = answer_is in cc
+  pub checked_end : accepted.after.end ≡ t.end
+  checked_end = ap (λ (z : Table). z.end) answer_is
 
   module _ (low : p + 4 ≤ e) (within : e ≤ length s) where
     checked_reach : Within s (first p e) (got (places_of s p e) accepted.after)
@@ -367,10 +302,10 @@ module _ (s : List ℕ) (p e : ℕ) (r : Strings) (is : r ≡ answer_of (table_o
         let l = k.long in
         subst (Within s (first p e)) k.read (within_strings s (u32_at s (p + 8)) (first p e) (omega arith, omega arith))
 
-    pub checked_low : e ≤ end
+    pub checked_low : e ≤ t.end
     checked_low = let z = checked_end in let w = checked_reach.2 in omega arith
 
-    pub checked_within : end ≤ length s
+    pub checked_within : t.end ≤ length s
     checked_within = let z = checked_end in let w = checked_reach.0.1 in omega arith
 
 -- since it has a string i
@@ -397,26 +332,29 @@ module _ (s : List ℕ) (p e i : ℕ) (h : i < length (places_of s p e)) where
     pub first_inside : Inside s (first p e)
     first_inside = let k = table_right.long in (omega arith, omega arith)
 
-    module _ (m : Moved) (is : moved m ≡ ends (strings s i (first p e))) where
-      pub skipped_not : (a b : ℕ) → m ≡ Moved.Refused a b → ⊥
-      skipped_not a b q = refused_not (ap moved (sym q) ∙ is ∙ stands.before)
+    module _ (m : Result Cursor Refusal) (is : moved m ≡ ends (strings s i (first p e))) where
+      skipped : m ≡ Ok stands.from
+      skipped = moved_got m stands.from (is ∙ stands.before)
 
-      module _ (c : Cursor) (q : m ≡ Moved.To c) where
+      pub skipped_ok : IsOk m
+      skipped_ok = rw skipped refl
+
+      module _ (c : Cursor) (q : m ≡ Ok c) where
         pub skipped_inside : Inside s c
         skipped_inside = strings_inside s i (first p e) c m is q first_inside
 
-        module _ (r : Moved) (o : moved r ≡ next_place s c) where
-          place_is : moved r ≡ got tt (place_of s p e i)
+        module _ (r : Result Cursor Refusal) (o : moved r ≡ next_place s c) where
+          place_is : r ≡ Ok (place_of s p e i)
           place_is =
-              let z : got tt c ≡ got tt stands.from = ap moved (sym q) ∙ is ∙ stands.before in
+              let z : Ok c ≡ Ok stands.from = sym q ∙ skipped in
               let y : ◌≡◌ {A = Cursor} c stands.from = cc in
-              o ∙ ap (next_place s) y ∙ stands.here
+              moved_got r (place_of s p e i) (o ∙ ap (next_place s) y ∙ stands.here)
 
-          pub placed_not : (a b : ℕ) → r ≡ Moved.Refused a b → ⊥
-          placed_not a b t = refused_not (ap moved (sym t) ∙ place_is)
+          pub placed_ok : IsOk r
+          placed_ok = rw place_is refl
 
-          pub placed : (d : Cursor) → r ≡ Moved.To d → d ≡ place_of s p e i
-          placed d t = let z : got tt d ≡ got tt (place_of s p e i) = ap moved (sym t) ∙ place_is in cc
+          pub placed : (d : Cursor) → r ≡ Ok d → d ≡ place_of s p e i
+          placed d t = let z : Ok d ≡ Ok (place_of s p e i) = sym t ∙ place_is in cc
 
     module _ (d : Cursor) (is : d ≡ place_of s p e i) where
       pub placed_passes : Passes (string_at s d)
@@ -424,10 +362,10 @@ module _ (s : List ℕ) (p e i : ℕ) (h : i < length (places_of s p e)) where
 
       pub placed_inside : Inside s d
       placed_inside =
-          let f : Inside s stands.from = strings_inside s i (first p e) stands.from (Moved.To stands.from) (sym stands.before) refl first_inside in
-          subst⁻¹ (Inside s) is (place_inside s stands.from (place_of s p e i) (Moved.To (place_of s p e i)) (sym stands.here) refl f)
+          let f : Inside s stands.from = strings_inside s i (first p e) stands.from (Ok stands.from) (sym stands.before) refl first_inside in
+          subst⁻¹ (Inside s) is (place_inside s stands.from (place_of s p e i) (Ok (place_of s p e i)) (sym stands.here) refl f)
 
-pub ruleset place_laws = (first_inside, skipped_inside, placed, placed_passes, placed_inside)
+pub ruleset place_laws = (first_inside, skipped_ok, skipped_inside, placed_ok, placed, placed_passes, placed_inside)
 
 -- ---- a fetch
 -- h is the head of a string of these units, and c where its characters are
@@ -445,13 +383,22 @@ chars_by s h c (got vs g) q n = go (rest s h g)
     go (refused a b) z = absurd z
 chars_by s h c (refused a b) q n = λ z. absurd z
 
-module _ (s : List ℕ) (d : Cursor) (passes : Passes (string_at s d)) (r : HeadRead) (is : head_read r ≡ head s d) where
-  pub fetch_not : (a b : ℕ) → r ≡ HeadRead.Refused a b → ⊥
+module _ (s : List ℕ) (d : Cursor) (passes : Passes (string_at s d)) (r : Result HeadRead Refusal) (is : head_read r ≡ head s d) where
+  pub fetch_ok : IsOk r
   unfolding string_at
-  fetch_not a b q =
-      subst (λ (x : Got Head). Passes (then x (λ h c. then (items 8 s true h.width h.chars c) (λ us e. then (rest s h e) (λ _ i. got us i))))) (sym is ∙ ap head_read q) passes
+  fetch_ok = by r is
+    where
+      by : (x : Result HeadRead Refusal) → head_read x ≡ head s d → IsOk x
+      by (Ok y) q = refl
+      by (Err f) q = absurd (subst (λ (x : Got Head). Passes (then x (λ h c. then (items 8 s true h.width h.chars c) (λ us e. then (rest s h e) (λ _ i. got us i))))) (sym q) passes)
 
-  module _ (h : Head) (c : Cursor) (q : r ≡ HeadRead.Whole h c) where
+  module _ (y : HeadRead) (q : r ≡ Ok y) where
+    abbrev h : Head
+    h = y.head
+
+    abbrev c : Cursor
+    c = y.chars
+
     string_is : string_at s d ≡ then (items 8 s true h.width h.chars c) (λ us e. then (rest s h e) (λ _ i. got us i))
     unfolding string_at
     string_is = ap (λ (x : Got Head). then x (λ h c. then (items 8 s true h.width h.chars c) (λ us e. then (rest s h e) (λ _ i. got us i)))) (sym is ∙ ap head_read q)
@@ -464,13 +411,13 @@ module _ (s : List ℕ) (d : Cursor) (passes : Passes (string_at s d)) (r : Head
     pub fetch_passes : Passes (items 8 s true h.width h.chars c)
     fetch_passes = chars.passes
 
-    pub fetch_short : (n : ℕ) → n < h.chars → Fetched.Refused 12 0 ≡ fetched_of n (units_at s d)
+    pub fetch_short : (n : ℕ) → n < h.chars → refuse 12 0 ≡ fetched_of n (units_at s d)
     unfolding fetched_of
-    fetch_short n l = let k : n < length (units_at s d) = omega (arith, chars.count) in pick_lt (Fetched.Refused 12 0) (Fetched.Refused 12 0) _ _ _ k refl
+    fetch_short n l = let k : n < length (units_at s d) = omega (arith, chars.count) in pick_lt (refuse 12 0) (refuse 12 0) _ _ _ k refl
 
-    pub fetch_units : (n : ℕ) → h.chars ≤ n → Fetched.Units h.chars ≡ fetched_of n (units_at s d)
+    pub fetch_units : (n : ℕ) → h.chars ≤ n → Ok h.chars ≡ fetched_of n (units_at s d)
     unfolding fetched_of
-    fetch_units n l = let k : length (units_at s d) ≤ n = omega (arith, chars.count) in pick_nlt (Fetched.Units h.chars) _ (Fetched.Units (length (units_at s d))) _ _ k (ap Fetched.Units (sym chars.count))
+    fetch_units n l = let k : length (units_at s d) ≤ n = omega (arith, chars.count) in pick_nlt (Ok h.chars) _ (Ok (length (units_at s d))) _ _ k (ap Ok (sym chars.count))
 
     pub buffer_short : (b : List ℕ) → length b < h.chars → b ≡ buffer_of b (units_at s d)
     unfolding buffer_of
@@ -482,14 +429,4 @@ module _ (s : List ℕ) (d : Cursor) (passes : Passes (string_at s d)) (r : Head
         let k : length (units_at s d) ≤ length b = omega (arith, chars.count) in
         pick_nlt b' b _ _ _ k (e ∙ ap (sets b 0) chars.are ∙ sets-eq (units_at s d) b 0 (omega (arith, chars.count)) ∙ ap (λ (k : ℕ). units_at s d ++ drop k b) (zero-add (length (units_at s d))))
 
-pub ruleset fetch_laws = (fetch_passes, fetch_short, fetch_units, buffer_short, buffer_units)
-
--- what is fetched at a place, told of the place that it is
-module _ (s : List ℕ) (d g : Cursor) (is : d ≡ g) where
-  pub fetched_there : (n : ℕ) (x : Fetched) → x ≡ fetched_of n (units_at s d) → x ≡ fetched_of n (units_at s g)
-  fetched_there n x h = h ∙ ap (λ (z : Cursor). fetched_of n (units_at s z)) is
-
-  pub buffer_there : (b b' : List ℕ) → b' ≡ buffer_of b (units_at s d) → b' ≡ buffer_of b (units_at s g)
-  buffer_there b b' h = h ∙ ap (λ (z : Cursor). buffer_of b (units_at s z)) is
-
-pub ruleset there_laws = (fetched_there, buffer_there)
+pub ruleset fetch_laws = (fetch_ok, fetch_passes, fetch_short, fetch_units, buffer_short, buffer_units)

@@ -1,12 +1,13 @@
 -- The shared string table: an SST and the CONTINUEs right after it, its segments. A break in it is 8.
-use Rattle.std.specs.Prelude.{ℕ, zero, suc, ◌+◌, ◌-◌, ◌*◌, ◌/◌, ◌%◌, List, [], ◌++◌, map, true, false, length, get_or, drop, ltb, eqb}
+use Rattle.std.specs.Prelude.{ℕ, zero, suc, ◌+◌, ◌-◌, ◌*◌, ◌/◌, ◌%◌, List, [], ◌++◌, map, true, false, length, get_or, drop, ltb, eqb, Result, Ok}
 use Rattle.steps.specs.Choice.{pick}
 use Rattle.byte_numbers.specs.Bytes.{byte_at, u16_at, u32_at}
+use Rattle.refusal.specs.declared.Refusal.{Refusal}
+use Rattle.refusal.specs.Refused.{refuse}
 use Rattle.segments.specs.declared.Cursor.{Cursor}
 use Rattle.segments.specs.Segments.{Got, got, refused, then, push, list_of, on, next_segment, filled, need, width_of, items}
 use Rattle.strings.specs.declared.Head.{Head}
-use Rattle.strings.specs.declared.Strings.{Strings}
-use Rattle.strings.specs.declared.Fetched.{Fetched}
+use Rattle.strings.specs.declared.Table.{Table}
 
 -- ---- a string
 -- bits 2 and 3 of its flags, 1 or 0
@@ -100,13 +101,13 @@ units_of s p e i = units_at s (place_of s p e i)
 
 -- ---- the answers
 -- to a check: how many strings, and where the table ends
-abbrev pub answer_of : Got (List Cursor) → Strings
-answer_of (got l c) = Strings.Table (length l) c.end
-answer_of (refused n o) = Strings.Refused n o
+abbrev pub answer_of : Got (List Cursor) → Result Table Refusal
+answer_of (got l c) = Ok (record { strings = length l; end = c.end })
+answer_of (refused n o) = refuse n o
 
 -- to a fetch of these units into a buffer of n: one of fewer units is refused
-unfoldable pub fetched_of : ℕ → List ℕ → Fetched
-fetched_of n us = pick (ltb n (length us)) (Fetched.Refused 12 0) (Fetched.Units (length us))
+unfoldable pub fetched_of : ℕ → List ℕ → Result ℕ Refusal
+fetched_of n us = pick (ltb n (length us)) (refuse 12 0) (Ok (length us))
 
 -- the buffer after it: the units, and after them what it held; all that it held if it is refused
 unfoldable pub buffer_of : List ℕ → List ℕ → List ℕ

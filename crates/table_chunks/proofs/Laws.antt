@@ -2,12 +2,15 @@
 use Prim.Native.Nat.{ℕ, zero, suc, ◌+◌, ◌-◌, ◌*◌, ◌/◌, ◌≤◌, ◌<◌}
 use mathlib.Core.Path.{◌≡◌, refl, sym, ap, ap₂, ◌∙◌, subst}
 use mathlib.Core.List.{List, [], ◌++◌, append_assoc}
+use mathlib.Core.Bool.{Bool, true, false}
+use Rattle.std.specs.Prelude.{Ok, min}
 use native.Mathlib.Omega.{arith}
 use native.Mathlib.Nat.{div-lt_iff_lt-mul}
 use lib.ListN.{length}
+use lib.Dec.{ltb}
+use borrow.Author.Tests.{ltb-false, ltb-true}
 use Rattle.steps.specs.Choice.{pick}
 use Rattle.segments.specs.declared.Cursor.{Cursor}
-use Rattle.segments.specs.declared.Moved.{Moved}
 use Rattle.segments.specs.Segments.{Got, got, refused}
 use Rattle.segments.specs.Parts.{Inside, ends, Passes}
 use Rattle.segments.proofs.Local.{refused_not}
@@ -15,11 +18,11 @@ use Rattle.strings.specs.Table.{strings}
 use Rattle.strings.proofs.Laws.{strings_inside}
 use Rattle.table_texts.specs.Texts.{Text, the_text, kept}
 use Rattle.table_texts.specs.Written.{Piece, pieces_of}
-use Rattle.table_writer.specs.declared.Out.{Out}
-use Rattle.table_writer.specs.Writing.{Wrote, state, wrote, Tidy, Long, texts_from, next_text, marked_pieces}
-use Rattle.table_writer.proofs.Parts.{wrote_append, long_left, long_right, tidy_after}
+use Rattle.table_writer.specs.declared.writer.Out.{Out}
+use Rattle.table_writer.specs.Writing.{Wrote, state, wrote, Long, texts_from, next_text, marked_pieces}
+use Rattle.table_writer.proofs.Parts.{wrote_append, long_left, long_right}
 use Rattle.table_writer.proofs.Many.{kept_pieces, next_by, wrote_length}
-use Rattle.table_size.specs.declared.Span.{Span}
+use Rattle.table_size.specs.declared.span.Span.{Span}
 use Rattle.table_size.specs.Sizing.{sized, Counted}
 use Rattle.table_size.proofs.Counting.{counted_by}
 use Rattle.table_size.proofs.Laws.{sized_append}
@@ -58,13 +61,13 @@ set_suc l i = refl
 
 pub record Tallied (l : List ℕ) (n i r : ℕ) : Type 0 where
   pub words : n ≤ length l * 64
-  pub few : length l ≤ 65536
+  pub small : n < 18446744073709551616
   pub within : i ≤ n
   pub rank : r ≡ set_below l i
 
-pub tally_start : (l : List ℕ) (n : ℕ) → n ≤ length l * 64 → length l ≤ 65536 → Tallied l n 0 0
+pub tally_start : (l : List ℕ) (n : ℕ) → n ≤ length l * 64 → n < 18446744073709551616 → Tallied l n 0 0
 unfolding set_below
-tally_start l n a b = record { words = a; few = b; within = omega arith; rank = refl }
+tally_start l n a b = record { words = a; small = b; within = omega arith; rank = refl }
 
 module _ (l : List ℕ) (n i r : ℕ) (g : Tallied l n i r) where
   pub tally_word : i < n → i / 64 < length l
@@ -74,7 +77,7 @@ module _ (l : List ℕ) (n i r : ℕ) (g : Tallied l n i r) where
       pos = omega arith
 
   pub tally_add : (x : ℕ) → i < n → x ≡ flag_at l i → r + x < 18446744073709551616
-  tally_add x h e = let a = g.rank in let b = set_most l (suc i) in let c = g.words in let d = g.few in let f = set_step in omega arith
+  tally_add x h e = let a = g.rank in let b = set_most l (suc i) in let c = g.small in let f = set_step in omega arith
     where
       set_step : set_below l (suc i) ≡ flag_at l i + set_below l i
       set_step = set_suc l i
@@ -82,13 +85,10 @@ module _ (l : List ℕ) (n i r : ℕ) (g : Tallied l n i r) where
   pub tally_flag : (x : ℕ) → i < n → x ≡ flag_at l i → x < 18446744073709551616
   tally_flag x h e = let a = tally_add x h e in omega arith
 
-  pub tally_one : i < n → i + 1 < 18446744073709551616
-  tally_one h = let c = g.words in let d = g.few in omega arith
-
   pub tally_next : (x : ℕ) → i < n → x ≡ flag_at l i → Tallied l n (i + 1) (r + x)
   tally_next x h e = record {
     words = g.words;
-    few = g.few;
+    small = g.small;
     within = omega arith;
     rank = let a = g.rank in let b = set_suc l i in let z : i + 1 ≡ suc i = omega arith in (let y : r + x ≡ set_below l (suc i) = omega arith in y) ∙ ap (set_below l) (sym z);
   }
@@ -96,7 +96,7 @@ module _ (l : List ℕ) (n i r : ℕ) (g : Tallied l n i r) where
   pub tally_done : n ≤ i → r ≡ set_below l n
   tally_done h = let a = g.within in let z : i ≡ n = omega arith in g.rank ∙ ap (set_below l) z
 
-pub ruleset tally_laws = (tally_start, tally_word, tally_add, tally_flag, tally_one, tally_next, tally_done)
+pub ruleset tally_laws = (tally_start, tally_word, tally_add, tally_flag, tally_next, tally_done)
 
 -- ---- k strings from c on, which end at d, then m others: n together, of which the first has the index base, and the one after the k the index j
 passes_by : {A B : Type 0} (x : Got A) (y : Got B) → ends x ≡ ends y → Passes y → Passes x
@@ -170,27 +170,21 @@ first_pass s (suc k) (suc n) h c p = pass_next s k n (first_pass s k n (omega ar
 pub fit_words : (l l₀ : List ℕ) (k : ℕ) → length l ≡ length l₀ → k ≤ length l₀ * 64 → k ≤ length l * 64
 fit_words l l₀ k e h = omega arith
 
-pub few_words : (l l₀ : List ℕ) → length l ≡ length l₀ → length l₀ ≤ 65536 → length l ≤ 65536
-few_words l l₀ e h = omega arith
-
 pub same_words : (l l₀ l₁ : List ℕ) → length l ≡ length l₁ → length l₁ ≡ length l₀ → length l ≡ length l₀
 same_words l l₀ l₁ e f = e ∙ f
 
-pub ruleset word_laws = (fit_words, few_words, same_words)
+pub ruleset word_laws = (fit_words, same_words)
 
--- ---- the strings from index base on, up to u, which stand at c
+-- ---- the strings from index base on, up to u, which stand at c; none where base is past u
 pub record Ahead (s : List ℕ) (u base : ℕ) (c : Cursor) : Type 0 where
-  pub short : length s ≤ 16777216
-  pub few : u < 4294967296
-  pub within : base ≤ u
   pub inside : Inside s c
   pub passes : Passes (strings s (u - base) c)
 
 abbrev ahead : List ℕ → ℕ → ℕ → Cursor → List Piece
 ahead s u base c = pieces_of (chosen s base (u - base) c)
 
-pub ahead_start : (s : List ℕ) (u : ℕ) (c : Cursor) → length s ≤ 16777216 → u < 4294967296 → Inside s c → Passes (strings s u c) → Ahead s u 0 c
-ahead_start s u c a b i p = let e : u ≡ u - 0 = omega arith in record { short = a; few = b; within = omega arith; inside = i; passes = subst (λ (j : ℕ). Passes (strings s j c)) e p }
+pub ahead_start : (s : List ℕ) (u : ℕ) (c : Cursor) → Inside s c → Passes (strings s u c) → Ahead s u 0 c
+ahead_start s u c i p = let e : u ≡ u - 0 = omega arith in record { inside = i; passes = subst (λ (j : ℕ). Passes (strings s j c)) e p }
 
 all_ahead : (s : List ℕ) (u : ℕ) (c : Cursor) → ahead s u 0 c ≡ pieces_of (chosen s 0 u c)
 all_ahead s u c = let e : u - 0 ≡ u = omega arith in ap (λ (j : ℕ). pieces_of (chosen s 0 j c)) e
@@ -200,70 +194,78 @@ unfolding marks_from kept pieces_of
 none_ahead s u base c h = let e : u - base ≡ 0 = omega arith in ap (λ (j : ℕ). pieces_of (chosen s base j c)) e
 
 module _ (s : List ℕ) (u base : ℕ) (c : Cursor) (z : Ahead s u base c) where
-  pub ahead_short : length s ≤ 16777216
-  ahead_short = z.short
-
   pub ahead_inside : Inside s c
   ahead_inside = z.inside
 
-  pub ahead_within : base ≤ u
-  ahead_within = z.within
-
-  module _ (k : ℕ) (le : k ≤ u - base) where
+  -- a chunk of n of them, the last one shorter
+  module _ (n k : ℕ) (k-is : k ≡ min n (u - base)) where
     pub ahead_pass : Passes (strings s k c)
-    ahead_pass = first_pass s k (u - base) le c z.passes
+    ahead_pass = first_pass s k (u - base) (omega arith) c z.passes
 
-    pub ahead_sum : base + k < 18446744073709551616
-    ahead_sum = let a = z.within in let b = z.few in omega arith
+    pub ahead_few : u < 4294967296 → k < 4294967296
+    ahead_few h = omega arith
 
-    pub ahead_less : 0 < k → u - (base + k) < u - base
-    ahead_less h = let a = z.within in omega arith
-
-    module _ (d : Cursor) (to : got tt d ≡ ends (strings s k c)) where
+    module _ (less : base < u) (d : Cursor) (to : got tt d ≡ ends (strings s k c)) where
       rest_of : Two s k (u - (base + k)) d base (base + k) (u - base) c
-      rest_of = two s k (u - (base + k)) d base (base + k) (u - base) c refl (let a = z.within in omega arith) z.passes to
+      rest_of = two s k (u - (base + k)) d base (base + k) (u - base) c refl (omega arith) z.passes to
 
-      pub ahead_next : Ahead s u (base + k) d
-      ahead_next = record { short = z.short; few = z.few; within = let a = z.within in omega arith; inside = strings_inside s k c d (Moved.To d) to refl z.inside; passes = rest_of.passes }
+      same_left : u - (base + k) ≡ u - (base + n)
+      same_left = omega arith
 
-      rest_pieces_lem : ahead s u base c ≡ pieces_of (chosen s base k c) ++ ahead s u (base + k) d
-      rest_pieces_lem = rest_of.pieces
+      pub ahead_next : Ahead s u (base + n) d
+      ahead_next = record { inside = strings_inside s k c d (Ok d) to refl z.inside; passes = subst (λ (m : ℕ). Passes (strings s m d)) same_left rest_of.passes }
 
-pub ruleset ahead_laws = (ahead_start, ahead_short, ahead_inside, ahead_within, ahead_pass, ahead_sum, ahead_less, ahead_next)
+      same_rest : ahead s u (base + k) d ≡ ahead s u (base + n) d
+      same_rest = by (ltb (u - base) n) refl
+        where
+          by : (b : Bool) → ltb (u - base) n ≡ b → ahead s u (base + k) d ≡ ahead s u (base + n) d
+          by true e = let l = ltb-true (u - base) n e in none_ahead s u (base + k) d (omega arith) ∙ sym (none_ahead s u (base + n) d (omega arith))
+          by false e = let l = ltb-false (u - base) n e in let m : k ≡ n = omega arith in ap (λ (j : ℕ). ahead s u (base + j) d) m
+
+      rest_pieces_lem : ahead s u base c ≡ pieces_of (chosen s base k c) ++ ahead s u (base + n) d
+      rest_pieces_lem = rest_of.pieces ∙ ap (λ (l : List Piece). pieces_of (chosen s base k c) ++ l) same_rest
+
+pub ruleset ahead_laws = (ahead_start, ahead_inside, ahead_pass, ahead_few, ahead_next)
 
 -- ---- counting
 pub record Sizing (s : List ℕ) (u : ℕ) (c₀ : Cursor) (base count : ℕ) (c : Cursor) (g : Span) : Type 0 where
-  pub tally : count ≡ used_below (texts_in s (entries_of s)) base
+  pub tally : count ≡ used_below (texts_in s (entries_of s)) (min base u)
   pub same : sized g (ahead s u base c) ≡ sized (record { room = 8216; size = 12 }) (pieces_of (chosen s 0 u c₀))
 
 pub sizing_start : (s : List ℕ) (u : ℕ) (c : Cursor) → Sizing s u c 0 0 c (record { room = 8216; size = 12 })
 unfolding used_below
-sizing_start s u c = record { tally = refl; same = ap (sized (record { room = 8216; size = 12 })) (all_ahead s u c) }
+sizing_start s u c =
+    let e : 0 ≡ min 0 u = omega arith in
+    record { tally = ap (used_below (texts_in s (entries_of s))) e; same = ap (sized (record { room = 8216; size = 12 })) (all_ahead s u c) }
 
-module _ (s : List ℕ) (u : ℕ) (c₀ : Cursor) (base count : ℕ) (c : Cursor) (g : Span) (z : Sizing s u c₀ base count c g) (a : Ahead s u base c) where
-  module _ (k : ℕ) (le : k ≤ u - base) where
-    pub sizing_small : (l : List ℕ) (t : ℕ) → t ≡ set_below l k → count + t < 18446744073709551616
-    sizing_small l t h =
+module _ (s : List ℕ) (u : ℕ) (c₀ : Cursor) (base count : ℕ) (c : Cursor) (g : Span) (z : Sizing s u c₀ base count c g) where
+  module _ (less : base < u) where
+    here : count ≡ used_below (texts_in s (entries_of s)) base
+    here = let e : min base u ≡ base = omega arith in z.tally ∙ ap (used_below (texts_in s (entries_of s))) e
+
+    pub sizing_small : (l : List ℕ) (k t : ℕ) → u < 4294967296 → k < 4294967296 → t ≡ set_below l k → count + t < 18446744073709551616
+    sizing_small l k t f m h =
         let b = used_low (texts_in s (entries_of s)) base in
         let c = set_most l k in
-        let d = z.tally in
-        let e = a.within in
-        let f = a.few in
+        let d = here in
         omega arith
 
-    pub sizing_next : (d : Cursor) (x : Span) (n : ℕ) (l : List ℕ) (t : ℕ) → got tt d ≡ ends (strings s k c) → x ≡ sized g (pieces_of (chosen s base k c)) → Flagged (texts_in s (entries_of s)) base n l → k ≤ n * 64 → t ≡ set_below l k
-        → Sizing s u c₀ (base + k) (count + t) d x
-    sizing_next d x n l t to is made fit tally =
+    pub sizing_next : Ahead s u base c → (n k : ℕ) → k ≡ min n (u - base) → (d : Cursor) (x : Span) (w : ℕ) (l : List ℕ) (t : ℕ) → got tt d ≡ ends (strings s k c) → x ≡ sized g (pieces_of (chosen s base k c)) → Flagged (texts_in s (entries_of s)) base w l → k ≤ w * 64 → t ≡ set_below l k
+        → Sizing s u c₀ (base + n) (count + t) d x
+    sizing_next a n k k-is d x w l t to is made fit tally =
         record {
-          tally = (let b = z.tally in let e = used_from (texts_in s (entries_of s)) base n l made k fit in omega arith);
+          tally =
+              let e = used_from (texts_in s (entries_of s)) base w l made k fit in
+              let f : base + k ≡ min (base + n) u = omega arith in
+              (let b = here in let y : count + t ≡ used_below (texts_in s (entries_of s)) (base + k) = omega arith in y) ∙ ap (used_below (texts_in s (entries_of s))) f;
           same =
-              ap (λ (y : Span). sized y (ahead s u (base + k) d)) is
-              ∙ sym (ap (sized g) (rest_pieces_lem s u base c a k le d to) ∙ sized_append (pieces_of (chosen s base k c)) (ahead s u (base + k) d) g) ∙ z.same;
+              ap (λ (y : Span). sized y (ahead s u (base + n) d)) is
+              ∙ sym (ap (sized g) (rest_pieces_lem s u base c a n k k-is less d to) ∙ sized_append (pieces_of (chosen s base k c)) (ahead s u (base + n) d) g) ∙ z.same;
         }
 
   module _ (last : u ≤ base) where
     pub sizing_tally : count ≡ used_below (texts_in s (entries_of s)) u
-    sizing_tally = let b = a.within in let e : base ≡ u = omega arith in z.tally ∙ ap (used_below (texts_in s (entries_of s))) e
+    sizing_tally = let e : min base u ≡ u = omega arith in z.tally ∙ ap (used_below (texts_in s (entries_of s))) e
 
     pub sizing_done : Counted (chosen s 0 u c₀) g.size
     unfolding sized
@@ -273,46 +275,42 @@ pub ruleset size_laws = (ahead_laws, sizing_start, sizing_small, sizing_next, si
 
 -- ---- writing
 pub record Putting (s : List ℕ) (u : ℕ) (c₀ : Cursor) (b₀ : List ℕ) (o₀ : Out) (base : ℕ) (c : Cursor) (b : List ℕ) (o : Out) : Type 0 where
-  pub tidy : Tidy o
   pub long : Long (state b o) (ahead s u base c)
   pub size : length b ≡ length b₀
   pub same : wrote (state b o) (ahead s u base c) ≡ wrote (state b₀ o₀) (pieces_of (chosen s 0 u c₀))
 
-pub putting_start : (s : List ℕ) (u : ℕ) (c : Cursor) (b : List ℕ) (o : Out) → Tidy o → Long (state b o) (pieces_of (chosen s 0 u c)) → Putting s u c b o 0 c b o
-putting_start s u c b o t l = record { tidy = t; long = subst (Long (state b o)) (sym (all_ahead s u c)) l; size = refl; same = ap (wrote (state b o)) (all_ahead s u c) }
+pub putting_start : (s : List ℕ) (u : ℕ) (c : Cursor) (b : List ℕ) (o : Out) → Long (state b o) (pieces_of (chosen s 0 u c)) → Putting s u c b o 0 c b o
+putting_start s u c b o l = record { long = subst (Long (state b o)) (sym (all_ahead s u c)) l; size = refl; same = ap (wrote (state b o)) (all_ahead s u c) }
 
 module _ (s : List ℕ) (u : ℕ) (c₀ : Cursor) (b₀ : List ℕ) (o₀ : Out) (base : ℕ) (c : Cursor) (b : List ℕ) (o : Out) (z : Putting s u c₀ b₀ o₀ base c b o) where
-  pub putting_tidy : Tidy o
-  putting_tidy = z.tidy
-
   pub putting_length : length b ≡ length b₀
   putting_length = z.size
 
-  module _ (a : Ahead s u base c) (k : ℕ) (le : k ≤ u - base) where
+  module _ (a : Ahead s u base c) (n k : ℕ) (k-is : k ≡ min n (u - base)) (less : base < u) where
     module _ (d : Cursor) (to : got tt d ≡ ends (strings s k c)) where
-      both_long : Long (state b o) (pieces_of (chosen s base k c) ++ ahead s u (base + k) d)
-      both_long = subst (Long (state b o)) (rest_pieces_lem s u base c a k le d to) z.long
+      both_long : Long (state b o) (pieces_of (chosen s base k c) ++ ahead s u (base + n) d)
+      both_long = subst (Long (state b o)) (rest_pieces_lem s u base c a n k k-is less d to) z.long
 
-      pub putting_next : (b' : List ℕ) (o' : Out) → state b' o' ≡ wrote (state b o) (pieces_of (chosen s base k c)) → Putting s u c₀ b₀ o₀ (base + k) d b' o'
+      pub putting_next : (b' : List ℕ) (o' : Out) → state b' o' ≡ wrote (state b o) (pieces_of (chosen s base k c)) → Putting s u c₀ b₀ o₀ (base + n) d b' o'
+      unfolding state
       putting_next b' o' is =
           let here = pieces_of (chosen s base k c) in
-          let later = ahead s u (base + k) d in
+          let later = ahead s u (base + n) d in
           record {
-            tidy = tidy_after b b' o o' here is z.tidy;
             long = subst (λ (y : Wrote). Long y later) (sym is) (long_right here later (state b o) both_long);
             size = ap (λ (y : Wrote). length y.buf) is ∙ wrote_length here (state b o) ∙ z.size;
-            same = ap (λ (y : Wrote). wrote y later) is ∙ sym (ap (wrote (state b o)) (rest_pieces_lem s u base c a k le d to) ∙ wrote_append here later (state b o)) ∙ z.same;
+            same = ap (λ (y : Wrote). wrote y later) is ∙ sym (ap (wrote (state b o)) (rest_pieces_lem s u base c a n k k-is less d to) ∙ wrote_append here later (state b o)) ∙ z.same;
           }
 
     pub putting_long : Long (state b o) (pieces_of (chosen s base k c))
-    putting_long = by (strings s k c) refl (ahead_pass s u base c a k le)
+    putting_long = by (strings s k c) refl (ahead_pass s u base c a n k k-is)
       where
         by : (x : Got (List Cursor)) → strings s k c ≡ x → Passes x → Long (state b o) (pieces_of (chosen s base k c))
-        by (got v d) q p = long_left (pieces_of (chosen s base k c)) (ahead s u (base + k) d) (state b o) (both_long d (ap ends (sym q)))
+        by (got v d) q p = long_left (pieces_of (chosen s base k c)) (ahead s u (base + n) d) (state b o) (both_long d (ap ends (sym q)))
         by (refused n f) q p = absurd p
 
   pub putting_done : u ≤ base → state b o ≡ wrote (state b₀ o₀) (pieces_of (chosen s 0 u c₀))
   unfolding wrote
   putting_done h = ap (wrote (state b o)) (sym (none_ahead s u base c h)) ∙ z.same
 
-pub ruleset put_laws = (ahead_laws, putting_start, putting_tidy, putting_length, putting_long, putting_next, putting_done)
+pub ruleset put_laws = (ahead_laws, putting_start, putting_length, putting_long, putting_next, putting_done)

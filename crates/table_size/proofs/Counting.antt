@@ -3,15 +3,16 @@ use Prim.Native.Nat.{ℕ, ◌+◌, ◌-◌, ◌≤◌, ◌<◌}
 use mathlib.Core.Path.{◌≡◌, refl, sym, ap, ap₂, ◌∙◌, subst}
 use mathlib.Core.List.{List, [], ◌∷◌}
 use mathlib.Core.Bool.{Bool, true, false}
+use Rattle.std.specs.Prelude.{Result, Ok}
 use native.Mathlib.Omega.{arith}
 use lib.ListN.{length}
 use lib.Dec.{ltb}
 use borrow.Author.Tests.{ltb-false, ltb-true}
 use Rattle.steps.specs.Choice.{pick}
-use Rattle.steps.proofs.Choice.{pick_by, pick_true, pick_false, pick_nlt, pick_eq, pick_ne}
+use Rattle.steps.proofs.Choice.{pick_by, pick_true, pick_false, pick_nlt}
 use Rattle.byte_numbers.specs.Bytes.{byte_at}
+use Rattle.refusal.specs.declared.Refusal.{Refusal}
 use Rattle.segments.specs.declared.Cursor.{Cursor}
-use Rattle.segments.specs.declared.Moved.{Moved}
 use Rattle.segments.specs.Segments.{Got, got, refused, then, list_of, items}
 use Rattle.segments.specs.Parts.{ends, moved, Passes}
 use Rattle.segments.proofs.Laws.{Count, count_items}
@@ -23,16 +24,13 @@ use Rattle.flags.specs.Flags.{flag_at, flags_from}
 use Rattle.table_texts.specs.Texts.{Text, text_of, text_at, the_text, kept}
 use Rattle.table_texts.specs.Written.{Piece, opens, room_after, laid_size, item_pieces, text_pieces, pieces_of, table_size}
 use Rattle.table_writer.specs.Writing.{char_pieces, rest_pieces, texts_from, next_text, marked_pieces, left_pieces}
-use Rattle.table_writer.proofs.Whole.{text_pieces_lem, text_byte, text_width, text_inside, text_chars}
+use Rattle.table_writer.proofs.Whole.{text_pieces_lem, text_ok, text_byte, text_some, text_small, text_inside, text_chars}
 use Rattle.table_writer.proofs.Many.{left_are, left_first, left_last, turn_first, turn_inside, turn_word, turn_passes, turn_ends, turns_passes, turns_to}
-use Rattle.table_size.specs.declared.Span.{Span}
+use Rattle.table_size.specs.declared.span.Span.{Span}
 use Rattle.table_size.specs.Sizing.{most, plus, sized_by, sized_items, sized, Counted}
 use Rattle.table_size.proofs.Laws.{piece_over, sized_append, sized_items_lem}
 
 -- ---- a string
-pub rest_by : (h : Head) (g e r : Span) → e ≡ sized_items g 0 4 h.runs → r ≡ sized_items e 0 1 h.phonetic → r ≡ sized_items (sized_items g 0 4 h.runs) 0 1 h.phonetic
-rest_by h g e r a b = b ∙ ap (λ (z : Span). sized_items z 0 1 h.phonetic) a
-
 sized_rest : (rs ps : List ℕ) (h : Head) → length rs ≡ h.runs → length ps ≡ h.phonetic → (g : Span) → sized g (rest_pieces (text_of 0 [] rs ps)) ≡ sized_items (sized_items g 0 4 h.runs) 0 1 h.phonetic
 unfolding rest_pieces
 sized_rest rs ps h a b g =
@@ -40,13 +38,19 @@ sized_rest rs ps h a b g =
     ∙ ap (λ (z : Span). sized_items z 0 1 (length ps)) (sized_items_lem false 4 rs g)
     ∙ ap₂ (λ (x y : ℕ). sized_items (sized_items g 0 4 x) 0 1 y) a b
 
-module _ (s : List ℕ) (d : Cursor) (r : HeadRead) (is : head_read r ≡ head s d) (h : Head) (c : Cursor) (q : r ≡ HeadRead.Whole h c) (passes : Passes (text_at s d)) (g e : Span)
-    (e-is : e ≡ sized g (char_pieces (byte_at s (d.at + 2)) h (list_of (items 8 s true h.width h.chars c)))) where
-  pub text_sized : (x : Span) → x ≡ sized_items (sized_items e 0 4 h.runs) 0 1 h.phonetic → x ≡ sized g (text_pieces (the_text (text_at s d)) [])
+module _ (s : List ℕ) (d : Cursor) (r : Result HeadRead Refusal) (is : head_read r ≡ head s d) (y : HeadRead) (q : r ≡ Ok y) (passes : Passes (text_at s d)) (g e : Span)
+    (e-is : e ≡ sized g (char_pieces (byte_at s (d.at + 2)) y.head (list_of (items 8 s true y.head.width y.head.chars y.chars)))) where
+  abbrev h : Head
+  h = y.head
+
+  abbrev c : Cursor
+  c = y.chars
+
+  pub text_sized : (x : Span) → x ≡ sized_items (sized_items e 0 4 y.head.runs) 0 1 y.head.phonetic → x ≡ sized g (text_pieces (the_text (text_at s d)) [])
   unfolding text_at
   text_sized x k =
       k ∙ ap (λ (z : Span). sized_items (sized_items z 0 4 h.runs) 0 1 h.phonetic) e-is
-      ∙ sym (subst (λ (y : Got Head). Passes (of y) → sized g (text_pieces (the_text (of y)) []) ≡ counted) (sym (sym is ∙ ap head_read q)) (at_chars (items 8 s true h.width h.chars c) (count_items 8 s true h.width h.chars c)) passes)
+      ∙ sym (subst (λ (x : Got Head). Passes (of x) → sized g (text_pieces (the_text (of x)) []) ≡ counted) (sym (sym is ∙ ap head_read q)) (at_chars (items 8 s true h.width h.chars c) (count_items 8 s true h.width h.chars c)) passes)
     where
       of : Got Head → Got Text
       of y = then y (λ h c. then (items 8 s true h.width h.chars c) (λ us e. then (items 8 s false 4 h.runs e) (λ rs g. then (items 8 s false 1 h.phonetic g) (λ ps i. got (text_of (byte_at s (d.at + 2)) us rs ps) i))))
@@ -57,41 +61,30 @@ module _ (s : List ℕ) (d : Cursor) (r : HeadRead) (is : head_read r ≡ head s
       counted : Span
       counted = counted_of (items 8 s true h.width h.chars c)
 
-      at_phonetic : (us rs : List ℕ) → length us ≡ h.chars → length rs ≡ h.runs → (y : Cursor) (x : Got (List ℕ)) → Count h.phonetic x → Passes (then x (λ ps i. got (text_of (byte_at s (d.at + 2)) us rs ps) i))
-          → sized g (text_pieces (the_text (then x (λ ps i. got (text_of (byte_at s (d.at + 2)) us rs ps) i))) []) ≡ counted_of (got us y)
-      at_phonetic us rs a b y (got ps i) m p =
+      at_phonetic : (us rs : List ℕ) → length us ≡ h.chars → length rs ≡ h.runs → (i : Cursor) (x : Got (List ℕ)) → Count h.phonetic x → Passes (then x (λ ps i. got (text_of (byte_at s (d.at + 2)) us rs ps) i))
+          → sized g (text_pieces (the_text (then x (λ ps i. got (text_of (byte_at s (d.at + 2)) us rs ps) i))) []) ≡ counted_of (got us i)
+      at_phonetic us rs a b i (got ps j) m p =
           ap (sized g) (text_pieces_lem (byte_at s (d.at + 2)) us rs ps h a b m)
           ∙ sized_append (char_pieces (byte_at s (d.at + 2)) h us) (rest_pieces (text_of 0 [] rs ps)) g
           ∙ sized_rest rs ps h b m (sized g (char_pieces (byte_at s (d.at + 2)) h us))
-      at_phonetic us rs a b y (refused n o) m p = absurd p
+      at_phonetic us rs a b i (refused n o) m p = absurd p
 
-      at_runs : (us : List ℕ) → length us ≡ h.chars → (y : Cursor) (x : Got (List ℕ)) → Count h.runs x → Passes (then x (λ rs g. then (items 8 s false 1 h.phonetic g) (λ ps i. got (text_of (byte_at s (d.at + 2)) us rs ps) i)))
-          → sized g (text_pieces (the_text (then x (λ rs g. then (items 8 s false 1 h.phonetic g) (λ ps i. got (text_of (byte_at s (d.at + 2)) us rs ps) i)))) []) ≡ counted_of (got us y)
-      at_runs us a y (got rs i) b p = at_phonetic us rs a b y (items 8 s false 1 h.phonetic i) (count_items 8 s false 1 h.phonetic i) p
-      at_runs us a y (refused n o) b p = absurd p
+      at_runs : (us : List ℕ) → length us ≡ h.chars → (i : Cursor) (x : Got (List ℕ)) → Count h.runs x → Passes (then x (λ rs g. then (items 8 s false 1 h.phonetic g) (λ ps i. got (text_of (byte_at s (d.at + 2)) us rs ps) i)))
+          → sized g (text_pieces (the_text (then x (λ rs g. then (items 8 s false 1 h.phonetic g) (λ ps i. got (text_of (byte_at s (d.at + 2)) us rs ps) i)))) []) ≡ counted_of (got us i)
+      at_runs us a i (got rs j) b p = at_phonetic us rs a b i (items 8 s false 1 h.phonetic j) (count_items 8 s false 1 h.phonetic j) p
+      at_runs us a i (refused n o) b p = absurd p
 
       at_chars : (x : Got (List ℕ)) → Count h.chars x → Passes (then x (λ us e. then (items 8 s false 4 h.runs e) (λ rs g. then (items 8 s false 1 h.phonetic g) (λ ps i. got (text_of (byte_at s (d.at + 2)) us rs ps) i))))
           → sized g (text_pieces (the_text (then x (λ us e. then (items 8 s false 4 h.runs e) (λ rs g. then (items 8 s false 1 h.phonetic g) (λ ps i. got (text_of (byte_at s (d.at + 2)) us rs ps) i))))) []) ≡ counted_of x
-      at_chars (got us y) a p = at_runs us a y (items 8 s false 4 h.runs y) (count_items 8 s false 4 h.runs y) p
+      at_chars (got us i) a p = at_runs us a i (items 8 s false 4 h.runs i) (count_items 8 s false 4 h.runs i) p
       at_chars (refused n o) a p = absurd p
 
-pub ruleset text_laws = (text_byte, text_width, text_inside, text_chars, text_sized)
+pub ruleset text_laws = (text_ok, text_byte, text_some, text_small, text_inside, text_chars, text_sized)
 
 -- ---- the next string
-pub next_sized : (s : List ℕ) (c : Cursor) (m : Moved) → moved m ≡ next_place s c → (d : Cursor) → m ≡ Moved.To d → (g r : Span) → r ≡ sized g (text_pieces (the_text (text_at s d)) []) → r ≡ sized g (text_pieces (the_text (next_text s c)) [])
+pub next_sized : (s : List ℕ) (c : Cursor) (m : Result Cursor Refusal) → moved m ≡ next_place s c → (d : Cursor) → m ≡ Ok d → (g r : Span) → r ≡ sized g (text_pieces (the_text (text_at s d)) []) → r ≡ sized g (text_pieces (the_text (next_text s c)) [])
 unfolding next_text
 next_sized s c m is d q g r k = k ∙ ap (λ (x : Got Unit). sized g (text_pieces (the_text (then x (λ _ d. text_at s d))) [])) (sym (sym is ∙ ap moved q))
-
-module _ (m : ℕ) (t : Text) (g : Span) where
-  pub mark_none : m ≡ 0 → g ≡ sized g (marked_pieces m t)
-  unfolding marked_pieces sized
-  mark_none e = ap (sized g) (pick_eq [] [] (text_pieces t []) m 0 e refl)
-
-  pub mark_some : (m ≡ 0 → ⊥) → (r : Span) → r ≡ sized g (text_pieces t []) → r ≡ sized g (marked_pieces m t)
-  unfolding marked_pieces
-  mark_some e r k = k ∙ ap (sized g) (pick_ne (text_pieces t []) [] (text_pieces t []) m 0 e refl)
-
-pub ruleset mark_laws = (mark_none, mark_some)
 
 -- ---- a turn of the loop
 pub turn_sized : (s l : List ℕ) (n i : ℕ) (d : Cursor) → Passes (strings s (n - i) d) → i < n → (g : Cursor) → got tt g ≡ ends (next_text s d) → (f : ℕ) → f ≡ flag_at l i → (x e e' : Span)

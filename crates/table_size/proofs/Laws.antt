@@ -6,8 +6,6 @@ use mathlib.Core.Bool.{Bool, true}
 use native.Mathlib.Omega.{arith}
 use native.Mathlib.Nat.{mul-le-mul_right, zero-mul, suc-mul}
 use lib.ListN.{length}
-use mir.Val.{Fits as FitsIn}
-use mir.Syntax.{w64}
 use Rattle.steps.proofs.Choice.{pick_lt, pick_nlt}
 use Rattle.byte_numbers.specs.Bytes.{bytes_of}
 use Rattle.byte_numbers.proofs.Laws.{length_bytes}
@@ -17,11 +15,10 @@ use Rattle.segments.specs.Parts.{Passes}
 use Rattle.segments.proofs.Laws.{Count, count_items}
 use Rattle.strings.specs.declared.Head.{Head}
 use Rattle.table_texts.specs.Written.{Piece, opening_of, item_pieces, wide_bit}
-use Rattle.table_texts.proofs.Table.{wide_bit_lem}
 use Rattle.table_writer.specs.Writing.{start_size, start_body, char_pieces}
 use Rattle.table_writer.proofs.Laws.{nothing_left}
 use Rattle.table_writer.proofs.Starts.{start_length}
-use Rattle.table_size.specs.declared.Span.{Span}
+use Rattle.table_size.specs.declared.span.Span.{Span}
 use Rattle.table_size.specs.Sizing.{most, plus, sized_by, sized_items, sized}
 
 -- ---- a piece
@@ -30,15 +27,9 @@ module _ (g : Span) (k n : ℕ) where
   unfolding sized_by
   piece_over h = pick_lt g g _ most g.size h refl
 
-  pub piece_opens : g.size ≤ most → g.room < n → record { room = 8224 - (k + n); size = g.size + (4 + k + n) } ≡ sized_by g k n
-  unfolding sized_by
-  piece_opens h i = pick_nlt _ g (plus g k n) most g.size h (pick_lt (record { room = 8224 - (k + n); size = g.size + (4 + k + n) }) _ _ g.room n i refl)
-
   pub piece_here : g.size ≤ most → n ≤ g.room → record { room = g.room - n; size = g.size + n } ≡ sized_by g k n
   unfolding sized_by
   piece_here h i = pick_nlt _ g (plus g k n) most g.size h (pick_nlt (record { room = g.room - n; size = g.size + n }) _ _ g.room n i refl)
-
-pub ruleset piece_laws = (piece_over, piece_opens, piece_here)
 
 -- all of them in the segment at hand
 pub product_low : (m n : ℕ) → m ≤ 8224 → n ≤ 16 → m * n < 18446744073709551616
@@ -67,16 +58,14 @@ sum_low m n s h i j = let a = mul-le-mul_right n h in omega arith
 
 pub ruleset whole_laws = (product_low, sum_low, items_whole)
 
-module _ (k n : ℕ) (x : Span) (e : Span) (left : ℕ) (inv : x ≡ sized_items e k n left) where
-  pub items_turn : 0 < left → (r : Span) → r ≡ sized_by e k n → x ≡ sized_items r k n (left - 1)
+module _ (k n m i : ℕ) (e : Span) where
+  pub items_turn : i < m → sized_items e k n (m - i) ≡ sized_items (sized_by e k n) k n (m - (i + 1))
   unfolding sized_items
-  items_turn h r q = let l : left ≡ suc (left - 1) = omega arith in inv ∙ ap (sized_items e k n) l ∙ ap (λ (z : Span). sized_items z k n (left - 1)) (sym q)
+  items_turn h = let l : m - i ≡ suc (m - (i + 1)) = omega arith in ap (sized_items e k n) l
 
-  pub items_end : left ≤ 0 → e ≡ x
+  pub items_end : m ≤ i → sized_items e k n (m - i) ≡ e
   unfolding sized_items
-  items_end h = let l : left ≡ 0 = omega arith in sym (inv ∙ ap (sized_items e k n) l)
-
-pub ruleset items_laws = (items_turn, items_end)
+  items_end h = let l : m - i ≡ 0 = omega arith in ap (sized_items e k n) l
 
 -- ---- pieces after pieces
 pub sized_append : (ps qs : List Piece) (g : Span) → sized g (ps ++ qs) ≡ sized (sized g ps) qs
@@ -125,20 +114,3 @@ module _ (s : List ℕ) (flags : ℕ) (h : Head) (c : Cursor) (g : Span) where
       → r ≡ sized_items e 1 (1 + wide) (h.chars - 1) → r ≡ sized g (char_pieces flags h (list_of (items 8 s true h.width h.chars c)))
   chars_some p some wide w-is z z-is e r e-is r-is =
       chars_some_by (list_of (items 8 s true h.width h.chars c)) (count_is h.chars (items 8 s true h.width h.chars c) (count_items 8 s true h.width h.chars c) p) some wide w-is z z-is e r e-is r-is
-
-pub wide_two : (us : List ℕ) (wide : ℕ) → wide ≡ wide_bit us → 1 + wide ≤ 2
-wide_two us wide e = let a = wide_bit_lem us in omega arith
-
-pub wide_small : (us : List ℕ) (wide : ℕ) → wide ≡ wide_bit us → 1 + wide ≤ 16
-wide_small us wide e = let a = wide_bit_lem us in omega arith
-
-pub wide_fits : (us : List ℕ) (wide : ℕ) → wide ≡ wide_bit us → FitsIn w64 (1 + wide)
-wide_fits us wide e = let a = wide_bit_lem us in omega arith
-
-pub start_few : (flags v z : ℕ) → z ≡ start_size flags v → v ≤ 2 → z ≤ 16
-start_few flags v z e l = omega arith
-
-pub start_wide : (flags z : ℕ) (us : List ℕ) (wide : ℕ) → wide ≡ wide_bit us → z ≡ start_size flags (1 + wide) → z ≤ 16
-start_wide flags z us wide w e = let a = wide_bit_lem us in omega arith
-
-pub ruleset chars_laws = (chars_none, chars_some, wide_two, wide_small, wide_fits, start_few, start_wide)

@@ -3,7 +3,7 @@ use Rattle.std.specs.Prelude.{ℕ, zero, suc, ◌+◌, ◌-◌, ◌≤◌, ◌<�
 use Rattle.steps.specs.Choice.{pick}
 use Rattle.table_texts.specs.Texts.{Text}
 use Rattle.table_texts.specs.Written.{Piece, table_size}
-use Rattle.table_size.specs.declared.Span.{Span}
+use Rattle.table_size.specs.declared.span.Span.{Span}
 
 abbrev pub most : ℕ
 most = 16777216

@@ -6,6 +6,7 @@ use mathlib.Core.Bool.{Bool, true, false}
 use native.Mathlib.Omega.{arith}
 use lib.ListN.{length, drop, length-append}
 use borrow.Author.Tests.{ltb-false}
+use lib.Dec.{eqb}
 use Rattle.steps.proofs.Choice.{pick_eq, pick_ne, pick_nlt, pick_true, pick_false}
 use Rattle.byte_numbers.specs.Bytes.{byte_at, num_at, u16_at, bytes_of}
 use Rattle.byte_numbers.proofs.Laws.{length_bytes}
@@ -15,7 +16,6 @@ use Rattle.record.proofs.Laws.{header_whole}
 use Rattle.segments.specs.declared.Cursor.{Cursor}
 use Rattle.segments.specs.Segments.{Got, got, then, push, on, continues, segment_of, next_segment, need, width_of, enter, room, items}
 use Rattle.segments.proofs.Local.{room_here}
-use Rattle.segments.proofs.Laws.{continues_whole}
 use Rattle.strings.specs.Table.{next_place}
 use Rattle.table_texts.specs.Texts.{Below}
 use Rattle.table_texts.specs.Written.{Piece, Laid, put, opens, room_after, lay, opening_of, piece_of, item_pieces, record_bytes, continue_bytes}
@@ -59,9 +59,10 @@ module _ (s : List ℕ) (c : Cursor) (b t : List ℕ) (some : 1 ≤ length b) (s
   in_next = record { seg = c.end; at = c.end + 4; end = c.end + 4 + length b }
 
   pub continues_here : continues s c.end ≡ true
+  unfolding continues
   continues_here =
       let l = record_left s c.end 0x003c b t small (omega arith) h in
-      sym (continues_whole s c.end 0x003c (omega arith) (sym (type_here s c.end 0x003c b t small (omega arith) h)))
+      sym (pick_nlt true false _ _ _ (omega arith) (ap (λ (x : ℕ). eqb x 0x003c) (sym (type_here s c.end 0x003c b t small (omega arith) h))))
 
   pub next_here : (n : ℕ) → next_segment n s c ≡ got tt in_next
   unfolding next_segment

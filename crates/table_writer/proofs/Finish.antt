@@ -1,6 +1,6 @@
 -- What the writer has written, piece by piece, is the table. Assumes nothing.
 use Prim.Native.Nat.{ℕ, suc, ◌+◌, ◌-◌, ◌≤◌, ◌<◌}
-use mathlib.Core.Path.{◌≡◌, refl, sym, ap, ◌∙◌, subst}
+use mathlib.Core.Path.{◌≡◌, refl, sym, ap, ◌∙◌}
 use mathlib.Core.List.{List, [], ◌∷◌, ◌++◌, append_assoc}
 use mathlib.Core.Bool.{Bool, true, false}
 use native.Mathlib.Omega.{arith}
@@ -12,11 +12,10 @@ use Rattle.byte_numbers.proofs.Laws.{length_bytes}
 use Rattle.segments.specs.Parts.{stored}
 use Rattle.table_texts.specs.Texts.{Text}
 use Rattle.table_texts.specs.Written.{Piece, Laid, put, opens, room_after, lay, laid_size, pieces_of, record_bytes, continue_bytes, laid_of, sst_body, table_bytes, table_size}
-use Rattle.table_writer.specs.declared.Out.{Out}
-use Rattle.table_writer.specs.Writing.{Wrote, state, closed, added, opened, step, wrote, finished, Tidy, Long, with_counts, table_start, with_table}
-use Rattle.table_writer.proofs.Laws.{step_is, stored_length}
+use Rattle.table_writer.specs.declared.writer.Out.{Out}
+use Rattle.table_writer.specs.Writing.{Wrote, state, closed, added, opened, step, wrote, finished, Long, with_counts, table_start, with_table}
+use Rattle.table_writer.proofs.Laws.{Tidy, step_is, stored_length}
 use Rattle.table_writer.proofs.Starts.{sets_append}
-use Rattle.table_writer.proofs.Parts.{tidy_after}
 use Rattle.table_writer.proofs.Many.{wrote_length}
 
 -- ---- stores at places apart
@@ -150,35 +149,20 @@ table_written b p total ts =
     finish_all (pieces_of ts) (table_start b p total (length ts)) (start_tidy b p total (length ts)) ∙ start_finish b p total ts
 
 -- ---- as the functions cite it
-pub counts_by : (b b₁ b₂ : List ℕ) (p total n : ℕ) → b₁ ≡ sets b (p + 4) (bytes_of 4 total) → b₂ ≡ sets b₁ (p + 8) (bytes_of 4 n) → b₂ ≡ with_counts b p total n
-unfolding with_counts stored
-counts_by b b₁ b₂ p total n e₁ e₂ = e₂ ∙ ap (λ (x : List ℕ). sets x (p + 8) (bytes_of 4 n)) e₁
-
-pub start_by_lem : (b b₁ b₂ : List ℕ) (p total n : ℕ) → b₁ ≡ sets b p (bytes_of 2 0x00fc) → b₂ ≡ with_counts b₁ p total n → state b₂ (record { seg = p; at = p + 12; room = 8216 }) ≡ table_start b p total n
-unfolding table_start stored
-start_by_lem b b₁ b₂ p total n e₁ e₂ =
-    let q = e₂ ∙ ap (λ (x : List ℕ). with_counts x p total n) e₁ in
-    λ i. record { buf = q i; out = record { seg = p; at = p + 12; room = 8216 } }
-
 module _ (b b' : List ℕ) (o e : Out) (ps : List Piece) (is : state b' e ≡ wrote (state b o) ps) where
-  pub all_tidy : Tidy o → Tidy e
-  all_tidy = tidy_after b b' o e ps is
-
   pub all_end : e.at ≡ o.at + laid_size o.room ps
+  unfolding state
   all_end = ap (λ (z : Wrote). z.out.at) is ∙ wrote_at ps (state b o)
 
   pub all_at : Long (state b o) ps → e.at ≤ length b'
-  unfolding Long
+  unfolding Long state
   all_at l = let a = all_end in let c : length b' ≡ length b = ap (λ (z : Wrote). length z.buf) is ∙ wrote_length ps (state b o) in omega arith
 
-  pub all_finished : (b'' : List ℕ) → b'' ≡ closed b' e → b'' ≡ finished (state b o) ps
+  pub all_finished : (b'' : List ℕ) → b'' ≡ closed (state b' e) → b'' ≡ finished (state b o) ps
   unfolding finished
-  all_finished b'' k = k ∙ ap (λ (z : Wrote). closed z.buf z.out) is
+  all_finished b'' k = k ∙ ap closed is
 
-pub ruleset all_laws = (all_tidy, all_end, all_at, all_finished)
-
-pub table_tidy : (b : List ℕ) (p total n : ℕ) (b' : List ℕ) (o : Out) → state b' o ≡ table_start b p total n → Tidy o
-table_tidy b p total n b' o is = subst (λ (z : Wrote). Tidy z.out) (sym is) (start_tidy b p total n)
+pub ruleset all_laws = (all_end, all_at, all_finished)
 
 module _ (b : List ℕ) (p total n : ℕ) (ts : List Text) where
   pub table_room : p + table_size ts ≤ length b → p + 12 ≤ length b
@@ -187,15 +171,15 @@ module _ (b : List ℕ) (p total n : ℕ) (ts : List Text) where
 
   module _ (b' : List ℕ) (o : Out) (is : state b' o ≡ table_start b p total n) where
     table_at : o.at ≡ p + 12
-    unfolding table_start
+    unfolding table_start state
     table_at = ap (λ (z : Wrote). z.out.at) is
 
     table_left : o.room ≡ 8224 - 8
-    unfolding table_start
+    unfolding table_start state
     table_left = ap (λ (z : Wrote). z.out.room) is
 
     pub table_long : p + table_size ts ≤ length b → Long (state b' o) (pieces_of ts)
-    unfolding Long table_size
+    unfolding Long table_size state
     table_long k =
         let a = table_at in
         let r = ap (λ (x : ℕ). laid_size x (pieces_of ts)) table_left in
@@ -209,4 +193,4 @@ module _ (b : List ℕ) (p total n : ℕ) (ts : List Text) where
     pub table_is : (b'' : List ℕ) → n ≡ length ts → b'' ≡ finished (state b' o) (pieces_of ts) → b'' ≡ with_table b p total ts
     table_is b'' e k = k ∙ ap (λ (z : Wrote). finished z (pieces_of ts)) (is ∙ ap (table_start b p total) e) ∙ table_written b p total ts
 
-pub ruleset table_laws = (table_room, table_tidy, table_long, table_end_lem, table_is)
+pub ruleset table_laws = (table_room, table_long, table_end_lem, table_is)

@@ -3,10 +3,11 @@ use Prim.Native.Nat.{ℕ, zero, suc, ◌+◌, ◌-◌, ◌≤◌, ◌<◌, ◌^�
 use mathlib.Core.Path.{◌≡◌, refl, sym, ap, ◌∙◌, subst}
 use mathlib.Core.List.{List, [], ◌∷◌}
 use mathlib.Core.Bool.{Bool, true, false}
+use Rattle.std.specs.Prelude.{Result, Ok, Err, IsOk}
 use native.Mathlib.Omega.{arith}
 use native.Mathlib.Nat.{mod-eq_of_lt}
 use lib.ListN.{length}
-use lib.Seq.{sets, length-sets}
+use lib.Seq.{length-sets}
 use mir.Val.{Fits as FitsIn}
 use mir.Syntax.{w64}
 use Rattle.steps.specs.Choice.{pick}
@@ -15,30 +16,14 @@ use Rattle.byte_numbers.specs.Bytes.{byte_at, num_at, u16_at, u32_at, bytes_of}
 use Rattle.byte_numbers.proofs.Laws.{length_bytes}
 use Rattle.segments.specs.declared.Cursor.{Cursor}
 use Rattle.segments.specs.declared.Room.{Room}
+use Rattle.refusal.specs.declared.Refusal.{Refusal}
 use Rattle.segments.specs.Segments.{Got, got, refused, then, push, list_of, on, next_segment, need, width_of, enter, room, items}
 use Rattle.segments.specs.Parts.{Inside, ends, roomed, Passes, stored}
 use Rattle.segments.proofs.Local.{need_is, ItemAt, room_item}
 use Rattle.segments.proofs.Laws.{ends_push}
 use Rattle.table_texts.specs.Written.{Piece, opens, room_after, laid_size, opening_of, piece_of, item_pieces, wide_bit}
-use Rattle.table_writer.specs.declared.Out.{Out}
-use Rattle.table_writer.specs.Writing.{Wrote, state, closed, added, opened, step, wrote, Tidy, Long, Item}
-
--- ---- a store, told as the definitions tell it
-pub closed_by : (b b' : List ℕ) (o : Out) → b' ≡ sets b (o.seg + 2) (bytes_of 2 (o.at - (o.seg + 4))) → b' ≡ closed b o
-unfolding closed stored
-closed_by b b' o h = h
-
-pub added_by : (b b' : List ℕ) (o : Out) (w n : ℕ) → b' ≡ sets b o.at (bytes_of w n) → state b' (record { seg = o.seg; at = o.at + w; room = o.room - w }) ≡ added (state b o) (bytes_of w n)
-unfolding added stored
-added_by b b' o w n h =
-    let e : w ≡ length (bytes_of w n) = sym (length_bytes w n) in
-    λ i. record { buf = h i; out = record { seg = o.seg; at = o.at + e i; room = o.room - e i } }
-
-pub opened_by : (b b' b'' : List ℕ) (o : Out) → b' ≡ closed b o → b'' ≡ sets b' o.at (bytes_of 2 0x003c) → state b'' (record { seg = o.at; at = o.at + 4; room = 8224 }) ≡ opened (state b o)
-unfolding opened stored
-opened_by b b' b'' o h k = let e = k ∙ ap (λ (x : List ℕ). sets x o.at (bytes_of 2 0x003c)) h in λ i. record { buf = e i; out = record { seg = o.at; at = o.at + 4; room = 8224 } }
-
-pub ruleset store_laws = (closed_by, added_by, opened_by)
+use Rattle.table_writer.specs.declared.writer.Out.{Out}
+use Rattle.table_writer.specs.Writing.{Reached, Wrote, state, closed, added, opened, step, wrote, Long, Item}
 
 -- ---- what a call gave
 pub stored_length : (b : List ℕ) (i : ℕ) (xs : List ℕ) → length (stored b i xs) ≡ length b
@@ -51,18 +36,19 @@ added_length w bs = stored_length w.buf w.out.at bs
 
 pub opened_length : (w : Wrote) → length (opened w).buf ≡ length w.buf
 unfolding opened closed
-opened_length w = stored_length (closed w.buf w.out) w.out.at (bytes_of 2 0x003c) ∙ stored_length w.buf (w.out.seg + 2) (bytes_of 2 (w.out.at - (w.out.seg + 4)))
+opened_length w = stored_length (closed w) w.out.at (bytes_of 2 0x003c) ∙ stored_length w.buf (w.out.seg + 2) (bytes_of 2 (w.out.at - (w.out.seg + 4)))
 
 module _ (b b' : List ℕ) (o e : Out) (is : state b' e ≡ opened (state b o)) where
   pub opened_at_lem : e.at ≡ o.at + 4
-  unfolding opened
+  unfolding opened state
   opened_at_lem = ap (λ (w : Wrote). w.out.at) is
 
   pub opened_room : e.room ≡ 8224
-  unfolding opened
+  unfolding opened state
   opened_room = ap (λ (w : Wrote). w.out.room) is
 
   pub opened_long : length b' ≡ length b
+  unfolding state
   opened_long = ap (λ (w : Wrote). length w.buf) is ∙ opened_length (state b o)
 
 -- nothing more
@@ -100,9 +86,9 @@ module _ (b : List ℕ) (o : Out) (f : Bool) (w : ℕ) where
     pub for_room : 1 ≤ e.room
     for_room = let p = opened_room b b' o e is in omega arith
 
-    pub for_flagged : f ≡ true → Item f w → (b'' : List ℕ) (g : Out) → state b'' g ≡ added (state b' e) (bytes_of 1 (w - 1)) → state b'' g ≡ added (opened (state b o)) (opening_of f w)
+    pub for_flagged : f ≡ true → w ≤ 4 → (b'' : List ℕ) (g : Out) → state b'' g ≡ added (state b' e) (bytes_of 1 (w - 1)) → state b'' g ≡ added (opened (state b o)) (opening_of f w)
     for_flagged t i b'' g q =
-        let m : w - 1 < 256 = (let a = i.few in omega arith) in
+        let m : w - 1 < 256 = omega arith in
         q ∙ ap (λ (z : Wrote). added z (bytes_of 1 (w - 1))) is ∙ ap (added (opened (state b o))) (one_byte (w - 1) m) ∙ ap (λ (g : Bool). added (opened (state b o)) (opening_of g w)) (sym t)
 
     pub for_plain : f ≡ false → state b' e ≡ added (opened (state b o)) (opening_of f w)
@@ -113,7 +99,7 @@ pub ruleset for_laws = (for_open, for_flag, for_room, for_flagged, for_plain)
 -- ---- an item
 module _ (b : List ℕ) (o : Out) (f : Bool) (w n : ℕ) (room : Long (state b o) (piece_of f w n ∷ [])) where
   item_opens : o.room < w → o.at + (4 + length (opening_of f w) + w) ≤ length b
-  unfolding Long laid_size
+  unfolding Long laid_size state
   item_opens h =
       let r : o.at + (pick (opens o.room (piece_of f w n)) (4 + length (opening_of f w)) 0 + (length (bytes_of w n) + 0)) ≤ length b = room in
       let l : o.room < length (bytes_of w n) = (let e = length_bytes w n in omega arith) in
@@ -122,7 +108,7 @@ module _ (b : List ℕ) (o : Out) (f : Bool) (w n : ℕ) (room : Long (state b o
       omega arith
 
   pub item_here : w ≤ o.room → o.at + w ≤ length b
-  unfolding Long laid_size
+  unfolding Long laid_size state
   item_here h =
       let r : o.at + (pick (opens o.room (piece_of f w n)) (4 + length (opening_of f w)) 0 + (length (bytes_of w n) + 0)) ≤ length b = room in
       let l : length (bytes_of w n) ≤ o.room = (let e = length_bytes w n in omega arith) in
@@ -135,26 +121,26 @@ module _ (b : List ℕ) (o : Out) (f : Bool) (w n : ℕ) (room : Long (state b o
 
   module _ (b' : List ℕ) (e : Out) (is : state b' e ≡ added (opened (state b o)) (opening_of f w)) (h : o.room < w) where
     pub item_last : e.at + w ≤ length b'
-    unfolding added opened
+    unfolding added opened state
     item_last =
         let a = item_opens h in
         let p : e.at ≡ o.at + 4 + length (opening_of f w) = ap (λ (w : Wrote). w.out.at) is in
         let q : length b' ≡ length b = ap (λ (w : Wrote). length w.buf) is ∙ added_length (opened (state b o)) (opening_of f w) ∙ opened_length (state b o) in
         omega arith
 
-    pub item_last_room : Item f w → w ≤ e.room
-    unfolding added opened
-    item_last_room i = let p : e.room ≡ 8224 - length (opening_of f w) = ap (λ (w : Wrote). w.out.room) is in let q = i.few in let a = flags_few f w in omega arith
+    pub item_last_room : w ≤ 4 → w ≤ e.room
+    unfolding added opened state
+    item_last_room i = let p : e.room ≡ 8224 - length (opening_of f w) = ap (λ (w : Wrote). w.out.room) is in let a = flags_few f w in omega arith
 
 module _ (b : List ℕ) (o : Out) (f : Bool) (w n : ℕ) (b₃ : List ℕ) (r : Out) where
   pub step_here : w ≤ o.room → state b₃ r ≡ added (state b o) (bytes_of w n) → state b₃ r ≡ step (state b o) (piece_of f w n)
-  unfolding step
+  unfolding step state
   step_here h e =
       let l : length (bytes_of w n) ≤ o.room = (let a = length_bytes w n in omega arith) in
       pick_nlt (state b₃ r) _ _ o.room (length (bytes_of w n)) l e
 
   pub step_open : o.room < w → (b' : List ℕ) (e : Out) → state b' e ≡ added (opened (state b o)) (opening_of f w) → state b₃ r ≡ added (state b' e) (bytes_of w n) → state b₃ r ≡ step (state b o) (piece_of f w n)
-  unfolding step
+  unfolding step state
   step_open h b' e is k =
       let l : o.room < length (bytes_of w n) = (let a = length_bytes w n in omega arith) in
       pick_lt (state b₃ r) _ _ o.room (length (bytes_of w n)) l (k ∙ ap (λ (z : Wrote). added z (bytes_of w n)) is)
@@ -176,6 +162,10 @@ module _ (s : List ℕ) (w p x : ℕ) where
 pub ruleset num_laws = (num_one, num_two, num_four)
 
 -- ---- a piece, and the pieces after it
+-- the next byte is past the segment's header
+abbrev pub Tidy : Reached → Type 0
+Tidy o = o.seg + 4 ≤ o.at
+
 module _ (w : Wrote) (p : Piece) where
   abbrev pub StepIs : Wrote → Type 0
   StepIs z = (z.out.room ≡ room_after w.out.room p) × (z.out.at ≡ w.out.at + (pick (opens w.out.room p) (4 + length p.opening) 0 + length p.body)) × (length z.buf ≡ length w.buf) × (Tidy w.out → Tidy z.out)
@@ -204,11 +194,6 @@ module _ (w : Wrote) (p : Piece) where
       let b = s.2 in
       let r : laid_size (step w p).out.room ps ≡ laid_size (room_after w.out.room p) ps = ap (λ (k : ℕ). laid_size k ps) s.0 in
       omega arith
-
-pub wrote_tidy : (ps : List Piece) (w : Wrote) → Tidy w.out → Tidy (wrote w ps).out
-unfolding wrote
-wrote_tidy [] w h = h
-wrote_tidy (p ∷ ps) w h = wrote_tidy ps (step w p) ((step_is w p).3 h)
 
 -- ---- items read one by one
 module _ (s : List ℕ) (f : Bool) where
@@ -241,79 +226,87 @@ pub list_push : {A : Type 0} (x : A) (y : Got (List A)) → Passes (push x y) �
 list_push x (got l c) h = refl
 list_push x (refused n o) h = absurd h
 
-module _ (s : List ℕ) (f : Bool) (w left : ℕ) (d : Cursor) (passes : Passes (items 8 s f w left d)) (r : Room) (is : roomed r ≡ room 8 s f w d) where
-  items_some : (x : Got ℕ) → room 8 s f w d ≡ x → 0 < left → items 8 s f w left d ≡ then x (λ v d. push (num_at s v d.at) (items 8 s f v (left - 1) (on d v)))
-  unfolding items
-  items_some x q h =
-      let e : left ≡ suc (left - 1) = omega arith in
-      ap (λ (k : ℕ). items 8 s f w k d) e ∙ ap (λ (y : Got ℕ). then y (λ v d. push (num_at s v d.at) (items 8 s f v (left - 1) (on d v)))) q
+-- an item is read: what holds of it
+module _ (s : List ℕ) (f : Bool) (w : ℕ) (d : Cursor) (r : Result Room Refusal) (is : roomed r ≡ room 8 s f w d) (y : Room) (q : r ≡ Ok y) where
+  room_is : room 8 s f w d ≡ got y.width y.place
+  room_is = sym is ∙ ap roomed q
 
-  pub turn_refused : (a b : ℕ) → 0 < left → r ≡ Room.Refused a b → ⊥
-  turn_refused a b h q = subst Passes (items_some (refused a b) (sym is ∙ ap roomed q) h) passes
+  pub turn_item : Item f w → Item f y.width
+  turn_item i = subst (ItemIf s f) room_is (room_keeps s f w d i)
 
-  module _ (u : ℕ) (g : Cursor) (q : r ≡ Room.At u g) where
-    room_is : room 8 s f w d ≡ got u g
-    room_is = sym is ∙ ap roomed q
+  item_at : Inside s d → ItemAt s d w y.width y.place
+  item_at inside = room_item 8 s f w d y.width y.place inside room_is
 
-    pub turn_item : Item f w → Item f u
-    turn_item i = subst (ItemIf s f) room_is (room_keeps s f w d i)
+  pub turn_some : Item f w → 1 ≤ y.width
+  turn_some i = (turn_item i).some
 
-    item_at : Inside s d → ItemAt s d w u g
-    item_at inside = room_item 8 s f w d u g inside room_is
+  pub turn_few : Item f w → y.width ≤ 4
+  turn_few i = (turn_item i).few
 
-    pub turn_some : Item f w → 1 ≤ u
-    turn_some i = (turn_item i).some
+  pub turn_even : Item f w → y.width ≡ 3 → ⊥
+  turn_even i = (turn_item i).even
 
-    pub turn_few : Item f w → u ≤ 4
-    turn_few i = (turn_item i).few
+  pub turn_within : Inside s d → y.place.at + y.width ≤ length s
+  turn_within inside = let i = item_at inside in let h = i.here in let k = i.inside in omega arith
 
-    pub turn_even : Item f w → u ≡ 3 → ⊥
-    turn_even i = (turn_item i).even
+  pub turn_add : Inside s d → length s < 2 ^ 64 → FitsIn w64 (y.place.at + y.width)
+  turn_add inside l = let i = turn_within inside in omega arith
 
-    pub turn_within : Inside s d → g.at + u ≤ length s
-    turn_within inside = let i = item_at inside in let h = i.here in let k = i.inside in omega arith
+  pub turn_inside : Inside s d → Inside s (on y.place y.width)
+  turn_inside inside = let i = item_at inside in let h = i.here in let k = i.inside in (omega arith, omega arith)
 
-    pub turn_add : Inside s d → length s < 2 ^ 64 → FitsIn w64 (g.at + u)
-    turn_add inside l = let i = turn_within inside in omega arith
+-- of those that are left it is the first, and `rest` are left after it
+items_some : (s : List ℕ) (f : Bool) (w left rest : ℕ) (d : Cursor) (x : Got ℕ) → left ≡ rest + 1 → room 8 s f w d ≡ x → items 8 s f w left d ≡ then x (λ v d. push (num_at s v d.at) (items 8 s f v rest (on d v)))
+unfolding items
+items_some s f w left rest d x more q =
+    let e : left ≡ suc rest = omega arith in
+    ap (λ (k : ℕ). items 8 s f w k d) e ∙ ap (λ (y : Got ℕ). then y (λ v d. push (num_at s v d.at) (items 8 s f v rest (on d v)))) q
 
-    pub turn_inside : Inside s d → Inside s (on g u)
-    turn_inside inside = let i = item_at inside in let h = i.here in let k = i.inside in (omega arith, omega arith)
+module _ (s : List ℕ) (f : Bool) (w left : ℕ) (d : Cursor) (passes : Passes (items 8 s f w left d)) (r : Result Room Refusal) (is : roomed r ≡ room 8 s f w d) where
+  pub turn_ok : 0 < left → IsOk r
+  turn_ok some = by r is
+    where
+      by : (x : Result Room Refusal) → roomed x ≡ room 8 s f w d → IsOk x
+      by (Ok y) q = refl
+      by (Err e) q = absurd (subst Passes (items_some s f w left (left - 1) d (refused e.number e.offset) (omega arith) (sym q)) passes)
 
-    module _ (some : 0 < left) where
-      turn : items 8 s f w left d ≡ push (num_at s u g.at) (items 8 s f u (left - 1) (on g u))
-      turn = items_some (got u g) room_is some
+  module _ (y : Room) (q : r ≡ Ok y) where
+    module _ (rest : ℕ) (more : left ≡ rest + 1) where
+      abbrev others : Got (List ℕ)
+      others = items 8 s f y.width rest (on y.place y.width)
 
-      pub turn_passes : Passes (items 8 s f u (left - 1) (on g u))
-      turn_passes = passes_push (num_at s u g.at) (items 8 s f u (left - 1) (on g u)) (subst Passes turn passes)
+      turn : items 8 s f w left d ≡ push (num_at s y.width y.place.at) others
+      turn = items_some s f w left rest d (got y.width y.place) more (sym is ∙ ap roomed q)
 
-      pub turn_list : list_of (items 8 s f w left d) ≡ num_at s u g.at ∷ list_of (items 8 s f u (left - 1) (on g u))
-      turn_list = ap list_of turn ∙ list_push (num_at s u g.at) (items 8 s f u (left - 1) (on g u)) (subst Passes turn passes)
+      pub turn_passes : Passes (items 8 s f y.width rest (on y.place y.width))
+      turn_passes = passes_push (num_at s y.width y.place.at) others (subst Passes turn passes)
 
-      pub turn_ends : (x : Got Unit) → x ≡ ends (items 8 s f w left d) → x ≡ ends (items 8 s f u (left - 1) (on g u))
-      turn_ends x h = h ∙ ap ends turn ∙ ends_push (num_at s u g.at) (items 8 s f u (left - 1) (on g u))
+      pub turn_list : list_of (items 8 s f w left d) ≡ num_at s y.width y.place.at ∷ list_of (items 8 s f y.width rest (on y.place y.width))
+      turn_list = ap list_of turn ∙ list_push (num_at s y.width y.place.at) others (subst Passes turn passes)
 
-      module _ (v m : ℕ) (m-is : m ≡ num_at s u g.at) where
-        pieces_are : item_pieces f v (list_of (items 8 s f w left d)) ≡ piece_of f v m ∷ item_pieces f v (list_of (items 8 s f u (left - 1) (on g u)))
+      pub turn_ends : (x : Got Unit) → x ≡ ends (items 8 s f w left d) → x ≡ ends (items 8 s f y.width rest (on y.place y.width))
+      turn_ends x h = h ∙ ap ends turn ∙ ends_push (num_at s y.width y.place.at) others
+
+      module _ (v m : ℕ) (m-is : m ≡ num_at s y.width y.place.at) where
+        pieces_are : item_pieces f v (list_of (items 8 s f w left d)) ≡ piece_of f v m ∷ item_pieces f v (list_of others)
         unfolding item_pieces
-        pieces_are = ap (item_pieces f v) turn_list ∙ ap (λ (k : ℕ). piece_of f v k ∷ item_pieces f v (list_of (items 8 s f u (left - 1) (on g u)))) (sym m-is)
+        pieces_are = ap (item_pieces f v) turn_list ∙ ap (λ (k : ℕ). piece_of f v k ∷ item_pieces f v (list_of others)) (sym m-is)
 
-        module _ (b : List ℕ) (e : Out) where
-          pub turn_long : Long (state b e) (item_pieces f v (list_of (items 8 s f w left d))) → Long (state b e) (piece_of f v m ∷ [])
-          turn_long h = long_first (state b e) (piece_of f v m) _ (subst (Long (state b e)) pieces_are h)
+        module _ (b : List ℕ) (e : Out) (b' : List ℕ) (e' : Out) (step-to : state b' e' ≡ step (state b e) (piece_of f v m)) where
+          pub turn_longer : Long (state b e) (item_pieces f v (list_of (items 8 s f w left d))) → Long (state b' e') (item_pieces f v (list_of (items 8 s f y.width rest (on y.place y.width))))
+          turn_longer h = subst (λ (z : Wrote). Long z (item_pieces f v (list_of others))) (sym step-to) (long_rest (state b e) (piece_of f v m) _ (subst (Long (state b e)) pieces_are h))
 
-          module _ (b' : List ℕ) (e' : Out) (step-to : state b' e' ≡ step (state b e) (piece_of f v m)) where
-            pub turn_longer : Long (state b e) (item_pieces f v (list_of (items 8 s f w left d))) → Long (state b' e') (item_pieces f v (list_of (items 8 s f u (left - 1) (on g u))))
-            turn_longer h = subst (λ (z : Wrote). Long z (item_pieces f v (list_of (items 8 s f u (left - 1) (on g u))))) (sym step-to) (long_rest (state b e) (piece_of f v m) _ (subst (Long (state b e)) pieces_are h))
+          pub turn_wrote : (x : Wrote) → x ≡ wrote (state b e) (item_pieces f v (list_of (items 8 s f w left d))) → x ≡ wrote (state b' e') (item_pieces f v (list_of (items 8 s f y.width rest (on y.place y.width))))
+          unfolding wrote
+          turn_wrote x h = h ∙ ap (wrote (state b e)) pieces_are ∙ ap (λ (z : Wrote). wrote z (item_pieces f v (list_of others))) (sym step-to)
 
-            pub turn_wrote : (x : Wrote) → x ≡ wrote (state b e) (item_pieces f v (list_of (items 8 s f w left d))) → x ≡ wrote (state b' e') (item_pieces f v (list_of (items 8 s f u (left - 1) (on g u))))
-            unfolding wrote
-            turn_wrote x h = h ∙ ap (wrote (state b e)) pieces_are ∙ ap (λ (z : Wrote). wrote z (item_pieces f v (list_of (items 8 s f u (left - 1) (on g u))))) (sym step-to)
+    pub turn_long : (v m : ℕ) (b : List ℕ) (e : Out) → 0 < left → m ≡ num_at s y.width y.place.at → Long (state b e) (item_pieces f v (list_of (items 8 s f w left d))) → Long (state b e) (piece_of f v m ∷ [])
+    turn_long v m b e some m-is h = let more : left ≡ left - 1 + 1 = omega arith in long_first (state b e) (piece_of f v m) _ (subst (Long (state b e)) (pieces_are (left - 1) more v m m-is) h)
 
-            pub turn_tidy : Tidy e → Tidy e'
-            turn_tidy t = subst (λ (z : Wrote). Tidy z.out) (sym step-to) ((step_is (state b e) (piece_of f v m)).3 t)
-
-            pub turn_length : (k : ℕ) → length b ≡ k → length b' ≡ k
-            turn_length k h = ap (λ (z : Wrote). length z.buf) step-to ∙ (step_is (state b e) (piece_of f v m)).2 ∙ h
+module _ (b : List ℕ) (e : Out) (p : Piece) (b' : List ℕ) (e' : Out) (step-to : state b' e' ≡ step (state b e) p) where
+  pub turn_length : (k : ℕ) → length b ≡ k → length b' ≡ k
+  unfolding state
+  turn_length k h = ap (λ (z : Wrote). length z.buf) step-to ∙ (step_is (state b e) p).2 ∙ h
 
 module _ (s : List ℕ) (f : Bool) (w left : ℕ) (d : Cursor) (last : left ≤ 0) where
   pub nothing_left : items 8 s f w left d ≡ got [] d
@@ -327,24 +320,24 @@ module _ (s : List ℕ) (f : Bool) (w left : ℕ) (d : Cursor) (last : left ≤ 
   unfolding wrote item_pieces
   turn_end v b e x h = sym (h ∙ ap (λ (y : Got (List ℕ)). wrote (state b e) (item_pieces f v (list_of y))) nothing_left)
 
-pub ruleset turn_laws = (turn_item, turn_some, turn_few, turn_even, turn_within, turn_add, turn_inside, turn_passes, turn_ends, turn_long, turn_longer, turn_wrote, turn_tidy, turn_length, turn_to, turn_end)
+pub ruleset turn_laws = (turn_ok, turn_item, turn_some, turn_few, turn_even, turn_within, turn_add, turn_inside, turn_passes, turn_ends, turn_long, turn_longer, turn_wrote, turn_length, turn_to, turn_end)
 
 -- ---- whether a character is over 255
-module _ (s : List ℕ) (w left : ℕ) (d : Cursor) (passes : Passes (items 8 s true w left d)) (r : Room) (is : roomed r ≡ room 8 s true w d) (u : ℕ) (g : Cursor) (q : r ≡ Room.At u g) (some : 0 < left)
-    (x : ℕ) (inv : x ≡ wide_bit (list_of (items 8 s true w left d))) (m : ℕ) (m-is : m ≡ num_at s u g.at) where
-  wide_is : x ≡ wide_bit (m ∷ list_of (items 8 s true u (left - 1) (on g u)))
-  wide_is = inv ∙ ap wide_bit (turn_list s true w left d passes r is u g q some ∙ ap (λ (k : ℕ). k ∷ list_of (items 8 s true u (left - 1) (on g u))) (sym m-is))
+module _ (s : List ℕ) (w left : ℕ) (d : Cursor) (passes : Passes (items 8 s true w left d)) (r : Result Room Refusal) (is : roomed r ≡ room 8 s true w d) (y : Room) (q : r ≡ Ok y)
+    (x : ℕ) (inv : x ≡ wide_bit (list_of (items 8 s true w left d))) (m : ℕ) (m-is : m ≡ num_at s y.width y.place.at) where
+  wide_is : (rest : ℕ) → left ≡ rest + 1 → x ≡ wide_bit (m ∷ list_of (items 8 s true y.width rest (on y.place y.width)))
+  wide_is rest more = inv ∙ ap wide_bit (turn_list s true w left d passes r is y q rest more ∙ ap (λ (k : ℕ). k ∷ list_of (items 8 s true y.width rest (on y.place y.width))) (sym m-is))
 
-  pub wide_found : 255 < m → 1 ≡ x
+  pub wide_found : 0 < left → 255 < m → 1 ≡ x
   unfolding wide_bit
-  wide_found h = pick_lt 1 1 _ 255 m h refl ∙ sym wide_is
+  wide_found some h = pick_lt 1 1 _ 255 m h refl ∙ sym (wide_is (left - 1) (omega arith))
 
-  pub wide_on : m ≤ 255 → x ≡ wide_bit (list_of (items 8 s true u (left - 1) (on g u)))
+  pub wide_on : (rest : ℕ) → left ≡ rest + 1 → m ≤ 255 → x ≡ wide_bit (list_of (items 8 s true y.width rest (on y.place y.width)))
   unfolding wide_bit
-  wide_on h = wide_is ∙ sym (pick_nlt _ 1 _ 255 m h refl)
+  wide_on rest more h = wide_is rest more ∙ sym (pick_nlt _ 1 _ 255 m h refl)
 
 pub wide_end : (s : List ℕ) (w left : ℕ) (d : Cursor) → left ≤ 0 → (x : ℕ) → x ≡ wide_bit (list_of (items 8 s true w left d)) → 0 ≡ x
 unfolding wide_bit
 wide_end s w left d last x h = sym (h ∙ ap (λ (y : Got (List ℕ)). wide_bit (list_of y)) (nothing_left s true w left d last))
 
-pub ruleset wide_laws = (turn_item, turn_some, turn_few, turn_even, turn_within, turn_add, turn_inside, turn_passes, wide_found, wide_on, wide_end)
+pub ruleset wide_laws = (turn_ok, turn_item, turn_some, turn_few, turn_even, turn_within, turn_add, turn_inside, turn_passes, wide_found, wide_on, wide_end)

@@ -3,14 +3,15 @@ use Prim.Native.Nat.{ℕ, suc, ◌+◌, ◌-◌, ◌*◌, ◌/◌, ◌≤◌, �
 use mathlib.Core.Path.{◌≡◌, refl, sym, ap, ◌∙◌, subst}
 use mathlib.Core.List.{List, [], ◌∷◌, ◌++◌, append_assoc, append-nil, map}
 use mathlib.Core.Bool.{Bool, true, false}
+use Rattle.std.specs.Prelude.{Result, Ok, Err, IsOk}
 use native.Mathlib.Omega.{arith}
 use native.Mathlib.Nat.{div-lt_iff_lt-mul}
 use lib.ListN.{length}
 use lib.Dec.{eqb}
 use Rattle.steps.specs.Choice.{pick}
 use Rattle.steps.proofs.Choice.{pick_eq, pick_ne}
+use Rattle.refusal.specs.declared.Refusal.{Refusal}
 use Rattle.segments.specs.declared.Cursor.{Cursor}
-use Rattle.segments.specs.declared.Moved.{Moved}
 use Rattle.segments.specs.Segments.{Got, got, refused, then, push, list_of}
 use Rattle.segments.specs.Parts.{Inside, ends, moved, Passes}
 use Rattle.segments.proofs.Local.{refused_not}
@@ -22,18 +23,22 @@ use Rattle.flags.specs.Flags.{flag_at, flags_from}
 use Rattle.table_texts.specs.Texts.{Text, text_at, the_text, keep_if, kept}
 use Rattle.table_texts.specs.Written.{Piece, item_pieces, width_of_text, later, start_piece, text_pieces, pieces_of}
 use Rattle.table_texts.proofs.Table.{string_text}
-use Rattle.table_writer.specs.declared.Out.{Out}
+use Rattle.table_writer.specs.declared.writer.Out.{Out}
 use Rattle.table_writer.specs.Writing.{Wrote, state, step, wrote, Long, texts_from, next_text, marked_pieces, left_pieces}
 use Rattle.table_writer.proofs.Laws.{step_is, passes_push, list_push}
-use Rattle.table_writer.proofs.Parts.{wrote_append, long_left, long_right, tidy_after}
+use Rattle.table_writer.proofs.Parts.{wrote_append, long_left, long_right}
 
 -- ---- the next string
-module _ (s : List ℕ) (c : Cursor) (m : Moved) (is : moved m ≡ next_place s c) where
-  pub next_refused : (a b : ℕ) → m ≡ Moved.Refused a b → Passes (next_text s c) → ⊥
+module _ (s : List ℕ) (c : Cursor) (m : Result Cursor Refusal) (is : moved m ≡ next_place s c) where
+  pub next_ok : Passes (next_text s c) → IsOk m
   unfolding next_text
-  next_refused a b q p = subst (λ (x : Got Unit). Passes (then x (λ _ d. text_at s d))) (sym is ∙ ap moved q) p
+  next_ok = by m is
+    where
+      by : (x : Result Cursor Refusal) → moved x ≡ next_place s c → Passes (then (next_place s c) (λ _ d. text_at s d)) → IsOk x
+      by (Ok d) q = λ p. refl
+      by (Err e) q = λ p. absurd (subst (λ (x : Got Unit). Passes (then x (λ _ d. text_at s d))) (sym q) p)
 
-  module _ (d : Cursor) (q : m ≡ Moved.To d) where
+  module _ (d : Cursor) (q : m ≡ Ok d) where
     next_is : next_text s c ≡ text_at s d
     unfolding next_text
     next_is = ap (λ (x : Got Unit). then x (λ _ d. text_at s d)) (sym is ∙ ap moved q)
@@ -50,7 +55,7 @@ module _ (s : List ℕ) (c : Cursor) (m : Moved) (is : moved m ≡ next_place s 
     pub next_wrote : (b b' : List ℕ) (o e : Out) → state b' e ≡ wrote (state b o) (text_pieces (the_text (text_at s d)) []) → state b' e ≡ wrote (state b o) (text_pieces (the_text (next_text s c)) [])
     next_wrote b b' o e k = k ∙ ap (λ (x : Got Text). wrote (state b o) (text_pieces (the_text x) [])) (sym next_is)
 
-pub ruleset next_laws = (place_inside, next_passes, next_to, next_long, next_wrote)
+pub ruleset next_laws = (next_ok, place_inside, next_passes, next_to, next_long, next_wrote)
 
 -- ---- past it
 next_string_lem : (s : List ℕ) (c : Cursor) → ends (next_string s c) ≡ ends (next_text s c)
@@ -65,16 +70,17 @@ next_string_lem s c = at_place (next_place s c)
     at_place (got u d) = ap ends (string_text s d) ∙ at_text (text_at s d)
     at_place (refused n o) = refl
 
-module _ (s : List ℕ) (c : Cursor) (m : Moved) (is : moved m ≡ ends (next_string s c)) where
-  pub skip_to : (d : Cursor) → m ≡ Moved.To d → got tt d ≡ ends (next_text s c)
+module _ (s : List ℕ) (c : Cursor) (m : Result Cursor Refusal) (is : moved m ≡ ends (next_string s c)) where
+  pub skip_to : (d : Cursor) → m ≡ Ok d → got tt d ≡ ends (next_text s c)
   skip_to d q = ap moved (sym q) ∙ is ∙ next_string_lem s c
 
-  pub skip_refused : (a b : ℕ) → m ≡ Moved.Refused a b → Passes (next_text s c) → ⊥
-  skip_refused a b q p = by (next_text s c) (ap moved (sym q) ∙ is ∙ next_string_lem s c) p
+  pub skip_ok : Passes (next_text s c) → IsOk m
+  skip_ok p = by m (next_text s c) (is ∙ next_string_lem s c) p
     where
-      by : (x : Got Text) → refused a b ≡ ends x → Passes x → ⊥
-      by (got t d) k p = refused_not k
-      by (refused n o) k p = p
+      by : (z : Result Cursor Refusal) (x : Got Text) → moved z ≡ ends x → Passes x → IsOk z
+      by (Ok d) x k p = refl
+      by (Err e) (got t d) k p = absurd (refused_not k)
+      by (Err e) (refused n o) k p = absurd p
 
 -- ---- by its mark
 module _ (m : ℕ) (t : Text) (b : List ℕ) (o : Out) where
@@ -180,7 +186,7 @@ module _ (s : List ℕ) (n i : ℕ) (d : Cursor) (passes : Passes (strings s (n 
   turn_first = (next_by s (n - (i + 1)) d).first_passes passes_more
 
   pub turn_inside : (g : Cursor) → got tt g ≡ ends (next_text s d) → Inside s d → Inside s g
-  turn_inside g to inside = next_inside s d g (Moved.To g) (to ∙ sym (next_string_lem s d)) refl inside
+  turn_inside g to inside = next_inside s d g (Ok g) (to ∙ sym (next_string_lem s d)) refl inside
 
   pub turn_word : (l : List ℕ) → n ≤ length l * 64 → i / 64 < length l
   turn_word l h = (div-lt_iff_lt-mul pos).1 (omega arith)
@@ -222,6 +228,7 @@ module _ (s : List ℕ) (n i : ℕ) (d : Cursor) (passes : Passes (strings s (n 
       by (refused a c) q p = absurd p
 
 pub turn_length : (s : List ℕ) (d : Cursor) (f : ℕ) (b b' : List ℕ) (e e' : Out) → state b' e' ≡ wrote (state b e) (marked_pieces f (the_text (next_text s d))) → (k : ℕ) → length b ≡ k → length b' ≡ k
+unfolding state
 turn_length s d f b b' e e' is k h = ap (λ (z : Wrote). length z.buf) is ∙ wrote_length (marked_pieces f (the_text (next_text s d))) (state b e) ∙ h
 
 -- before the first, and after the last
@@ -252,4 +259,4 @@ module _ (s : List ℕ) (n : ℕ) (c : Cursor) where
     unfolding wrote
     turns_wrote l b b' o e k = sym (ap (wrote (state b o)) (sym (left_first s l n c)) ∙ k ∙ ap (wrote (state b' e)) (left_last s l n i d last))
 
-pub ruleset turns_laws = (turn_first, turn_inside, turn_word, turn_passes, turn_ends, turn_long, turn_wrote, turn_length, turn_first_long, tidy_after, turns_passes, turns_long, turns_to, turns_wrote)
+pub ruleset turns_laws = (turn_first, turn_inside, turn_word, turn_passes, turn_ends, turn_long, turn_wrote, turn_length, turn_first_long, turns_passes, turns_long, turns_to, turns_wrote)

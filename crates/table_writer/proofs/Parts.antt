@@ -1,22 +1,24 @@
 -- The laws of a string's parts as they are written. Assumes nothing.
 use Prim.Native.Nat.{ℕ, ◌+◌, ◌-◌, ◌≤◌, ◌<◌}
-use mathlib.Core.Path.{◌≡◌, refl, sym, ap, ◌∙◌, subst}
+use mathlib.Core.Path.{◌≡◌, refl, sym, ap, ap₂, ◌∙◌, subst}
 use mathlib.Core.List.{List, [], ◌∷◌, ◌++◌}
 use mathlib.Core.Bool.{Bool, true, false}
+use Rattle.std.specs.Prelude.{Result, Ok}
+use Rattle.std.specs.Int.{from_bool}
 use native.Mathlib.Omega.{arith}
 use Rattle.byte_numbers.specs.Bytes.{num_at}
 use Rattle.segments.specs.declared.Cursor.{Cursor}
 use Rattle.segments.specs.declared.Room.{Room}
+use Rattle.refusal.specs.declared.Refusal.{Refusal}
 use Rattle.segments.specs.Segments.{Got, got, refused, then, list_of, on, room, items}
 use Rattle.segments.specs.Parts.{Inside, ends, roomed, Passes}
 use Rattle.segments.proofs.Local.{refused_not, Within, within_items}
 use Rattle.strings.specs.declared.Head.{Head}
 use Rattle.table_texts.specs.Texts.{Text, text_of, the_text}
 use Rattle.table_texts.specs.Written.{Piece, item_pieces, wide_bit, laid_size}
-use Rattle.table_texts.proofs.Table.{wide_bit_lem}
-use Rattle.table_writer.specs.declared.Out.{Out}
-use Rattle.table_writer.specs.Writing.{Wrote, state, step, wrote, Tidy, Long, Item, start_body, plain_piece, from_pieces, char_pieces, rest_at, rest_pieces}
-use Rattle.table_writer.proofs.Laws.{step_is, long_first, long_rest, wrote_tidy, turn_list, turn_passes, turn_ends, turn_item, turn_within, turn_inside, nothing_left}
+use Rattle.table_writer.specs.declared.writer.Out.{Out}
+use Rattle.table_writer.specs.Writing.{Wrote, state, step, wrote, Long, Item, start_body, plain_piece, from_pieces, char_pieces, rest_at, rest_pieces}
+use Rattle.table_writer.proofs.Laws.{step_is, long_first, long_rest, turn_list, turn_passes, turn_ends, turn_item, turn_within, turn_inside, nothing_left}
 
 -- ---- pieces after pieces
 pub wrote_append : (ps qs : List Piece) (w : Wrote) → wrote w (ps ++ qs) ≡ wrote (wrote w ps) qs
@@ -42,9 +44,6 @@ pub long_right : (ps qs : List Piece) (w : Wrote) → Long w (ps ++ qs) → Long
 unfolding wrote
 long_right [] qs w h = h
 long_right (p ∷ ps) qs w h = long_right ps qs (step w p) (long_rest w p (ps ++ qs) h)
-
-pub tidy_after : (b b' : List ℕ) (o e : Out) (ps : List Piece) → state b' e ≡ wrote (state b o) ps → Tidy o → Tidy e
-tidy_after b b' o e ps is t = subst (λ (z : Wrote). Tidy z.out) (sym is) (wrote_tidy ps (state b o) t)
 
 -- ---- widths
 pub item_four : Item false 4
@@ -127,7 +126,7 @@ module _ (s : List ℕ) (h : Head) (c : Cursor) (passes : Passes (rest_at s h c)
           long_left (item_pieces false 4 (list_of runs_x)) (item_pieces false 1 (list_of (items 8 s false 1 h.phonetic g))) (state b o) (subst (Long (state b o)) (rest_pieces_lem g is) l)
       by (refused n m) q = absurd (subst Passes q rest_runs)
 
-pub ruleset rest_laws = (item_four, item_one, items_inside, tidy_after, rest_runs, rest_passes, rest_to, rest_long, rest_wrote, rest_first)
+pub ruleset rest_laws = (item_four, item_one, items_inside, rest_runs, rest_passes, rest_to, rest_long, rest_wrote, rest_first)
 
 -- ---- head and characters: none
 module _ (s : List ℕ) (flags : ℕ) (h : Head) (c : Cursor) (last : h.chars ≤ 0) where
@@ -147,12 +146,10 @@ module _ (s : List ℕ) (flags : ℕ) (h : Head) (c : Cursor) (last : h.chars �
 
 pub ruleset none_laws = (none_to, none_long, none_wrote)
 
--- ---- some
-pub wide_low : (us : List ℕ) (wide : ℕ) → wide ≡ wide_bit us → wide ≤ 1
-wide_low us wide e = let a = wide_bit_lem us in omega arith
-
-pub low_item : (wide : ℕ) → wide ≤ 1 → Item true (1 + wide)
-low_item wide l = record { some = omega arith; few = omega arith; even = λ q. omega arith; char = λ q. omega arith }
+-- ---- some: of v bytes each, anew
+pub bool_low : (b : Bool) → from_bool b ≤ 1
+bool_low true = omega arith
+bool_low false = omega arith
 
 pub item_some : (f : Bool) (w : ℕ) → Item f w → 1 ≤ w
 item_some f w i = i.some
@@ -163,33 +160,58 @@ item_few f w i = i.few
 pub item_even : (f : Bool) (w : ℕ) → Item f w → w ≡ 3 → ⊥
 item_even f w i = i.even
 
-module _ (s : List ℕ) (flags wide : ℕ) (h : Head) (u : ℕ) (g : Cursor) (m : ℕ) (m-is : m ≡ num_at s u g.at) (b : List ℕ) (o : Out) where
-  from_are : from_pieces s flags wide h u g ≡ plain_piece (start_body flags wide h (1 + wide) m) ∷ item_pieces true (1 + wide) (list_of (items 8 s true u (h.chars - 1) (on g u)))
-  unfolding from_pieces
-  from_are = ap (λ (k : ℕ). plain_piece (start_body flags wide h (1 + wide) k) ∷ item_pieces true (1 + wide) (list_of (items 8 s true u (h.chars - 1) (on g u)))) (sym m-is)
+module _ (wide : Bool) (r : ℕ) (r-is : r ≡ from_bool wide) where
+  pub low_item : Item true (1 + r)
+  low_item = let l = bool_low wide in record { some = omega arith; few = omega arith; even = λ q. omega arith; char = λ q. omega arith }
 
-  pub from_first : Long (state b o) (from_pieces s flags wide h u g) → Long (state b o) (plain_piece (start_body flags wide h (1 + wide) m) ∷ [])
-  from_first l = long_first (state b o) (plain_piece (start_body flags wide h (1 + wide) m)) _ (subst (Long (state b o)) from_are l)
+  pub low_few : 1 + r ≤ 2
+  low_few = let l = bool_low wide in omega arith
 
-  module _ (b' : List ℕ) (e : Out) (step-to : state b' e ≡ step (state b o) (plain_piece (start_body flags wide h (1 + wide) m))) where
-    pub from_tidy : Tidy o → Tidy e
-    from_tidy t = subst (λ (z : Wrote). Tidy z.out) (sym step-to) ((step_is (state b o) (plain_piece (start_body flags wide h (1 + wide) m))).3 t)
+  module _ (s : List ℕ) (flags : ℕ) (h : Head) (u : ℕ) (g : Cursor) (m : ℕ) (m-is : m ≡ num_at s u g.at) (b : List ℕ) (o : Out) where
+    abbrev start : Piece
+    start = plain_piece (start_body flags (from_bool wide) h (1 + r) m)
 
-    pub from_long : Long (state b o) (from_pieces s flags wide h u g) → Long (state b' e) (item_pieces true (1 + wide) (list_of (items 8 s true u (h.chars - 1) (on g u))))
-    from_long l = subst (λ (z : Wrote). Long z (item_pieces true (1 + wide) (list_of (items 8 s true u (h.chars - 1) (on g u))))) (sym step-to) (long_rest (state b o) (plain_piece (start_body flags wide h (1 + wide) m)) _ (subst (Long (state b o)) from_are l))
+    abbrev others : List ℕ
+    others = list_of (items 8 s true u (h.chars - 1) (on g u))
 
-    pub from_wrote : (b'' : List ℕ) (x : Out) → state b'' x ≡ wrote (state b' e) (item_pieces true (1 + wide) (list_of (items 8 s true u (h.chars - 1) (on g u)))) → state b'' x ≡ wrote (state b o) (from_pieces s flags wide h u g)
-    unfolding wrote
-    from_wrote b'' x k = k ∙ ap (λ (z : Wrote). wrote z (item_pieces true (1 + wide) (list_of (items 8 s true u (h.chars - 1) (on g u))))) step-to ∙ ap (wrote (state b o)) (sym from_are)
+    from_are : from_pieces s flags (from_bool wide) h u g ≡ start ∷ item_pieces true (1 + r) others
+    unfolding from_pieces
+    from_are = ap₂ (λ (k n : ℕ). plain_piece (start_body flags (from_bool wide) h k n) ∷ item_pieces true k others) (ap (λ (k : ℕ). 1 + k) (sym r-is)) (sym m-is)
 
-pub ruleset from_laws = (low_item, item_some, item_few, item_even, from_first, from_tidy, from_long, from_wrote)
+    pub from_first : Long (state b o) (from_pieces s flags (from_bool wide) h u g) → Long (state b o) (plain_piece (start_body flags (from_bool wide) h (1 + r) m) ∷ [])
+    from_first l = long_first (state b o) start _ (subst (Long (state b o)) from_are l)
 
-module _ (s : List ℕ) (flags : ℕ) (h : Head) (c : Cursor) (passes : Passes (items 8 s true h.width h.chars c)) (r : Room) (is : roomed r ≡ room 8 s true h.width c) (u : ℕ) (g : Cursor) (q : r ≡ Room.At u g) (some : 0 < h.chars) where
+    module _ (b' : List ℕ) (e : Out) (step-to : state b' e ≡ step (state b o) (plain_piece (start_body flags (from_bool wide) h (1 + r) m))) where
+      pub from_long : Long (state b o) (from_pieces s flags (from_bool wide) h u g) → Long (state b' e) (item_pieces true (1 + r) (list_of (items 8 s true u (h.chars - 1) (on g u))))
+      from_long l = subst (λ (z : Wrote). Long z (item_pieces true (1 + r) others)) (sym step-to) (long_rest (state b o) start _ (subst (Long (state b o)) from_are l))
+
+      pub from_wrote : (b'' : List ℕ) (x : Out) → state b'' x ≡ wrote (state b' e) (item_pieces true (1 + r) (list_of (items 8 s true u (h.chars - 1) (on g u)))) → state b'' x ≡ wrote (state b o) (from_pieces s flags (from_bool wide) h u g)
+      unfolding wrote
+      from_wrote b'' x k = k ∙ ap (λ (z : Wrote). wrote z (item_pieces true (1 + r) others)) step-to ∙ ap (wrote (state b o)) (sym from_are)
+
+pub ruleset from_laws = (low_item, low_few, item_some, item_few, item_even, from_first, from_long, from_wrote)
+
+module _ (s : List ℕ) (flags : ℕ) (h : Head) (c : Cursor) (passes : Passes (items 8 s true h.width h.chars c)) (r : Result Room Refusal) (is : roomed r ≡ room 8 s true h.width c) (y : Room) (q : r ≡ Ok y) (some : 0 < h.chars) where
+  abbrev u : ℕ
+  u = y.width
+
+  abbrev g : Cursor
+  g = y.place
+
+  more : h.chars ≡ h.chars - 1 + 1
+  more = omega arith
+
   abbrev later_ones : List ℕ
   later_ones = list_of (items 8 s true u (h.chars - 1) (on g u))
 
   some_list : list_of (items 8 s true h.width h.chars c) ≡ num_at s u g.at ∷ later_ones
-  some_list = turn_list s true h.width h.chars c passes r is u g q some
+  some_list = turn_list s true h.width h.chars c passes r is y q (h.chars - 1) more
+
+  pub some_item : 1 ≤ h.width → h.width ≤ 2 → Item true y.width
+  some_item a b = turn_item s true h.width c r is y q (record { some = a; few = omega arith; even = λ e. omega arith; char = λ e. b })
+
+  pub some_passes : Passes (items 8 s true y.width (h.chars - 1) (on y.place y.width))
+  some_passes = turn_passes s true h.width h.chars c passes r is y q (h.chars - 1) more
 
   module _ (wide : ℕ) (w-is : wide ≡ wide_bit (list_of (items 8 s true h.width h.chars c))) where
     some_pieces : char_pieces flags h (list_of (items 8 s true h.width h.chars c)) ≡ from_pieces s flags wide h u g
@@ -206,6 +228,6 @@ module _ (s : List ℕ) (flags : ℕ) (h : Head) (c : Cursor) (passes : Passes (
     some_wrote b b' o e k = k ∙ ap (wrote (state b o)) (sym some_pieces)
 
   pub some_to : (x : Cursor) → got tt x ≡ ends (items 8 s true u (h.chars - 1) (on g u)) → got tt x ≡ ends (items 8 s true h.width h.chars c)
-  some_to x k = k ∙ sym (turn_ends s true h.width h.chars c passes r is u g q some (ends (items 8 s true h.width h.chars c)) refl)
+  some_to x k = k ∙ sym (turn_ends s true h.width h.chars c passes r is y q (h.chars - 1) more (ends (items 8 s true h.width h.chars c)) refl)
 
-pub ruleset some_laws = (wide_low, turn_item, turn_within, turn_inside, turn_passes, some_long, some_wrote, some_to)
+pub ruleset some_laws = (some_item, turn_within, turn_inside, some_passes, some_long, some_wrote, some_to)

@@ -13,7 +13,7 @@ use Rattle.segments.specs.Parts.{stored}
 use Rattle.strings.specs.declared.Head.{Head}
 use Rattle.strings.specs.Table.{phonetic_bit, rich_bit}
 use Rattle.table_texts.specs.Written.{opens, laid_size}
-use Rattle.table_writer.specs.declared.Out.{Out}
+use Rattle.table_writer.specs.declared.writer.Out.{Out}
 use Rattle.table_writer.specs.Writing.{Wrote, state, added, opened, step, Long, new_flags, counts_size, counts_body, lead_body, head_body, start_body, plain_piece, start_size}
 use Rattle.table_writer.proofs.Laws.{none, added_length, opened_at_lem, opened_room, opened_long}
 
@@ -34,14 +34,15 @@ added_append w xs ys =
 -- where a call came to that added bytes
 module _ (b b' : List ℕ) (o e : Out) (bs : List ℕ) (is : state b' e ≡ added (state b o) bs) where
   bytes_at_lem : e.at ≡ o.at + length bs
-  unfolding added
+  unfolding added state
   bytes_at_lem = ap (λ (w : Wrote). w.out.at) is
 
   bytes_room : e.room ≡ o.room - length bs
-  unfolding added
+  unfolding added state
   bytes_room = ap (λ (w : Wrote). w.out.room) is
 
   bytes_long : length b' ≡ length b
+  unfolding state
   bytes_long = ap (λ (w : Wrote). length w.buf) is ∙ added_length (state b o) bs
 
   then_added : (b'' : List ℕ) (g : Out) (cs : List ℕ) → state b'' g ≡ added (state b' e) cs → state b'' g ≡ added (state b o) (bs ++ cs)
@@ -158,7 +159,7 @@ module _ (b : List ℕ) (o : Out) (flags wide : ℕ) (h : Head) (v n size : ℕ)
 
   module _ (long : Long (state b o) (plain_piece (start_body flags wide h v n) ∷ [])) where
     start_opens : o.room < size → o.at + (4 + start_size flags v) ≤ length b
-    unfolding Long laid_size
+    unfolding Long laid_size state
     start_opens k =
         let r : o.at + (pick (opens o.room (plain_piece (start_body flags wide h v n))) 4 0 + (length (start_body flags wide h v n) + 0)) ≤ length b = long in
         let e = size_is in
@@ -171,7 +172,7 @@ module _ (b : List ℕ) (o : Out) (flags wide : ℕ) (h : Head) (v n size : ℕ)
     start_open k = let a = start_opens k in omega arith
 
     pub start_fits : size ≤ o.room → o.at + start_size flags v ≤ length b
-    unfolding Long laid_size
+    unfolding Long laid_size state
     start_fits k =
         let r : o.at + (pick (opens o.room (plain_piece (start_body flags wide h v n))) 4 0 + (length (start_body flags wide h v n) + 0)) ≤ length b = long in
         let e = size_is in
@@ -188,14 +189,14 @@ module _ (b : List ℕ) (o : Out) (flags wide : ℕ) (h : Head) (v n size : ℕ)
 
   module _ (b₃ : List ℕ) (r : Out) where
     pub start_here : size ≤ o.room → state b₃ r ≡ added (state b o) (start_body flags wide h v n) → state b₃ r ≡ step (state b o) (plain_piece (start_body flags wide h v n))
-    unfolding step
+    unfolding step state
     start_here k e =
         let q = size_is in
         let l : length (start_body flags wide h v n) ≤ o.room = omega arith in
         pick_nlt (state b₃ r) _ _ o.room (length (start_body flags wide h v n)) l e
 
     pub start_after : o.room < size → (b' : List ℕ) (e : Out) → state b' e ≡ opened (state b o) → state b₃ r ≡ added (state b' e) (start_body flags wide h v n) → state b₃ r ≡ step (state b o) (plain_piece (start_body flags wide h v n))
-    unfolding step
+    unfolding step state
     start_after k b' e is t =
         let q = size_is in
         let l : o.room < length (start_body flags wide h v n) = omega arith in

@@ -2,21 +2,21 @@
 use Prim.Native.Nat.{ℕ, zero, suc, ◌+◌, ◌-◌, ◌*◌, ◌≤◌, ◌<◌}
 use mathlib.Core.Path.{◌≡◌, refl, sym, ap, ap₂, ◌∙◌, subst}
 use mathlib.Core.List.{List, [], ◌∷◌, append-nil}
-use mathlib.Core.Bool.{Bool, true, false}
+use mathlib.Core.Bool.{Bool, true}
 use native.Mathlib.Omega.{arith}
 use lib.ListN.{length, get_or}
 use lib.Seq.{sets}
 use mir.Val.{Fits as FitsIn}
 use mir.Syntax.{w8}
-use Rattle.steps.proofs.Choice.{never, pick_nlt}
+use Rattle.steps.proofs.Choice.{pick_nlt}
 use Rattle.byte_numbers.specs.Bytes.{num_at, bytes_at, bytes_of}
 use Rattle.byte_numbers.proofs.Laws.{length_bytes, bytes_first}
 use Rattle.segments.specs.declared.Cursor.{Cursor}
 use Rattle.segments.specs.Segments.{Got, got, list_of, on, items}
-use Rattle.segments.specs.Parts.{Inside, ends, nums, stored}
+use Rattle.segments.specs.Parts.{ends, nums, stored}
 use Rattle.segments.proofs.Laws.{items_fit, nums_length}
 use Rattle.table_texts.specs.Written.{piece_of, item_pieces, wide_bit}
-use Rattle.table_writer.specs.declared.Out.{Out}
+use Rattle.table_writer.specs.declared.writer.Out.{Out}
 use Rattle.table_writer.specs.Writing.{Wrote, state, added, step, wrote, Long, Stays}
 use Rattle.table_writer.proofs.Laws.{none, one_byte}
 use Rattle.table_writer.proofs.Starts.{added_append}
@@ -65,23 +65,22 @@ module _ (s : List ℕ) (bytes : (i : ℕ) → FitsIn w8 (get_or s i 0)) where
   wide_none zero p = refl
   wide_none (suc n) p = pick_nlt 0 1 _ 255 (num_at s 1 p) (let a = num_low p in omega arith) (wide_none n (p + 1))
 
-  -- ---- as the functions meet it: t is what `plain` tells
-  module _ (f : Bool) (w v n here room : ℕ) (c : Cursor) (x : Bool) (t : Stays w v n here room x) (e : x ≡ true) (h : here ≡ c.end - c.at) where
+  module _ (f : Bool) (w v n : ℕ) (c : Cursor) (room : ℕ) (t : Stays w v n (c.end - c.at) room) where
     list_is : items 8 s f w n c ≡ got (nums s 1 n c.at) (on c n)
-    list_is = let a = t.told e in ap (λ (k : ℕ). items 8 s f k n c) a.0 ∙ items_all s f n c (let b = a.2 in omega arith)
+    list_is = ap (λ (k : ℕ). items 8 s f k n c) t.0 ∙ items_all s f n c t.2
 
     pub plain_ends : (d : Cursor) → d ≡ on c n → got tt d ≡ ends (items 8 s f w n c)
-    plain_ends d i = ap (λ (y : Cursor). got tt y) i ∙ ap ends (sym list_is)
+    plain_ends d e = ap (λ (y : Cursor). got tt y) e ∙ ap ends (sym list_is)
 
     pieces_are : item_pieces f v (list_of (items 8 s f w n c)) ≡ item_pieces f 1 (nums s 1 n c.at)
-    pieces_are = let a = t.told e in λ i. item_pieces f (a.1 i) (list_of (list_is i))
+    pieces_are = let a = t.1 in λ j. item_pieces f (a j) (list_of (list_is j))
 
     module _ (b : List ℕ) (o : Out) (r : room ≡ o.room) where
       fits : n ≤ o.room
-      fits = let a = (t.told e).3 in omega arith
+      fits = let a = t.3 in omega arith
 
       pub plain_room : Long (state b o) (item_pieces f v (list_of (items 8 s f w n c))) → o.at + n ≤ length b
-      unfolding Long
+      unfolding Long state
       plain_room l =
           let k : Long (state b o) (item_pieces f 1 (nums s 1 n c.at)) = subst (Long (state b o)) pieces_are l in
           let y = wrote_at (item_pieces f 1 (nums s 1 n c.at)) (state b o) in
@@ -91,16 +90,11 @@ module _ (s : List ℕ) (bytes : (i : ℕ) → FitsIn w8 (get_or s i 0)) where
           omega arith
 
       pub plain_wrote : (b' : List ℕ) (g : Out) → state b' g ≡ added (state b o) (nums s 1 n c.at) → state b' g ≡ wrote (state b o) (item_pieces f v (list_of (items 8 s f w n c)))
-      plain_wrote b' g i = i ∙ sym (wrote_plain f n c.at (state b o) fits) ∙ ap (wrote (state b o)) (sym pieces_are)
+      unfolding state
+      plain_wrote b' g e = e ∙ sym (wrote_plain f n c.at (state b o) fits) ∙ ap (wrote (state b o)) (sym pieces_are)
 
-  pub plain_wide : (w v n here room : ℕ) (c : Cursor) (x : Bool) (t : Stays w v n here room x) (e : x ≡ true) (h : here ≡ c.end - c.at) → 0 ≡ wide_bit (list_of (items 8 s true w n c))
-  plain_wide w v n here room c x t e h = wide_none n c.at ∙ ap (λ (y : Got (List ℕ)). wide_bit (list_of y)) (sym (list_is true w v n here room c x t e h))
-
-pub plain_within : (s : List ℕ) (w v n here room : ℕ) (c : Cursor) (x : Bool) → Stays w v n here room x → x ≡ true → here ≡ c.end - c.at → Inside s c → c.at + n ≤ length s
-plain_within s w v n here room c x t e h i = let a = (t.told e).2 in omega arith
-
-pub plain_low : (w v n here room : ℕ) (x : Bool) → Stays w v n here room x → x ≡ true → n ≤ room
-plain_low w v n here room x t e = (t.told e).3
+  pub plain_wide : (w n : ℕ) (c : Cursor) → w ≡ 1 → n ≤ c.end - c.at → 0 ≡ wide_bit (list_of (items 8 s true w n c))
+  plain_wide w n c e h = wide_none n c.at ∙ ap (λ (y : Got (List ℕ)). wide_bit (list_of y)) (sym (ap (λ (k : ℕ). items 8 s true k n c) e ∙ items_all s true n c h))
 
 -- ---- bytes copied
 nums_bytes : (s : List ℕ) (n p : ℕ) → p + n ≤ length s → bytes_at s p n ≡ nums s 1 n p
@@ -111,19 +105,11 @@ nums_bytes s (suc n) p h =
     let b : get_or s p 0 ≡ num_at s 1 p = omega arith in
     bytes_first s p (suc n) (omega arith) (omega arith) ∙ ap (λ (m : ℕ). get_or s p 0 ∷ bytes_at s (p + 1) m) e ∙ ap₂ ◌∷◌ b (nums_bytes s n (p + 1) (omega arith))
 
-pub bytes_added : (s : List ℕ) (n p : ℕ) (b b' : List ℕ) (o : Out) → b' ≡ sets b o.at (bytes_at s p n) → p + n ≤ length s → state b' (record { seg = o.seg; at = o.at + n; room = o.room - n }) ≡ added (state b o) (nums s 1 n p)
-unfolding added stored
-bytes_added s n p b b' o h l =
-    let e : n ≡ length (nums s 1 n p) = sym (nums_length s 1 n p) in
+pub bytes_added : (s : List ℕ) (n p : ℕ) (b b' : List ℕ) (o e : Out) → b' ≡ sets b o.at (bytes_at s p n) → p + n ≤ length s → e.seg ≡ o.seg → e.at ≡ o.at + n → e.room ≡ o.room - n → state b' e ≡ added (state b o) (nums s 1 n p)
+unfolding added stored state
+bytes_added s n p b b' o e h l seg at room =
+    let m : n ≡ length (nums s 1 n p) = sym (nums_length s 1 n p) in
     let f = h ∙ ap (sets b o.at) (nums_bytes s n p l) in
-    λ i. record { buf = f i; out = record { seg = o.seg; at = o.at + e i; room = o.room - e i } }
-
--- ---- what is told
-module _ (w v n here room : ℕ) where
-  pub plain_yes : w ≡ 1 → v ≡ 1 → n ≤ here → n ≤ room → Stays w v n here room true
-  plain_yes a b g h = record { told = λ _. (a, b, g, h) }
-
-  pub plain_no : Stays w v n here room false
-  plain_no = record { told = λ e. never cc }
-
-pub ruleset told_laws = (plain_yes, plain_no)
+    let x : e.at ≡ o.at + length (nums s 1 n p) = omega arith in
+    let y : e.room ≡ o.room - length (nums s 1 n p) = omega arith in
+    λ i. record { buf = f i; out = record { seg = seg i; at = x i; room = y i } }

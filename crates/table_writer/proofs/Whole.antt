@@ -1,11 +1,13 @@
 -- The laws of a whole string as it is written. Assumes nothing.
-use Prim.Native.Nat.{ℕ, ◌+◌, ◌*◌, ◌<◌}
+use Prim.Native.Nat.{ℕ, ◌+◌, ◌*◌, ◌≤◌, ◌<◌}
 use mathlib.Core.Path.{◌≡◌, refl, sym, ap, ap₂, ◌∙◌, subst}
 use mathlib.Core.List.{List, [], ◌∷◌, ◌++◌, append_assoc, append-nil}
 use mathlib.Core.Bool.{true, false}
+use Rattle.std.specs.Prelude.{Result, Ok, Err, IsOk}
 use native.Mathlib.Omega.{arith}
 use lib.ListN.{length}
 use Rattle.byte_numbers.specs.Bytes.{byte_at, bytes_of}
+use Rattle.refusal.specs.declared.Refusal.{Refusal}
 use Rattle.segments.specs.declared.Cursor.{Cursor}
 use Rattle.segments.specs.Segments.{Got, got, refused, then, list_of, on, need, items}
 use Rattle.segments.specs.Parts.{Inside, ends, Passes}
@@ -19,10 +21,10 @@ use Rattle.strings.proofs.Laws.{head_inside, head_some, head_small}
 use Rattle.table_texts.specs.Texts.{Text, text_of, text_at, the_text}
 use Rattle.table_texts.specs.Written.{Piece, item_pieces, wide_bit, head_bytes, text_pieces}
 use Rattle.table_texts.proofs.Table.{wide_bit_lem}
-use Rattle.table_writer.specs.declared.Out.{Out}
-use Rattle.table_writer.specs.Writing.{Wrote, state, wrote, Long, Item, new_flags, counts_body, lead_body, head_body, start_body, plain_piece, char_pieces, rest_at, rest_pieces}
+use Rattle.table_writer.specs.declared.writer.Out.{Out}
+use Rattle.table_writer.specs.Writing.{Wrote, state, wrote, Long, new_flags, counts_body, lead_body, head_body, start_body, plain_piece, char_pieces, rest_at, rest_pieces}
 use Rattle.table_writer.proofs.Laws.{one_byte}
-use Rattle.table_writer.proofs.Parts.{wrote_append, long_left, long_right, tidy_after, items_inside, then_is, passes_then}
+use Rattle.table_writer.proofs.Parts.{wrote_append, long_left, long_right, items_inside, then_is, passes_then}
 
 -- ---- the pieces of a string are those of its parts
 module _ (f : ℕ) (us rs ps : List ℕ) (h : Head) (chars : length us ≡ h.chars) (runs : length rs ≡ h.runs) (phonetic : length ps ≡ h.phonetic) where
@@ -46,16 +48,23 @@ text_pieces_lem f (u ∷ us) rs ps h c r p =
     ap₂ (λ (x : List ℕ) (y : List Piece). plain_piece (x ++ bytes_of (1 + wide_bit (u ∷ us)) u) ∷ (item_pieces true (1 + wide_bit (u ∷ us)) us ++ (item_pieces false 4 rs ++ y))) (head_bytes_lem f (u ∷ us) rs ps h c r p) (append-nil (item_pieces false 1 ps))
 
 -- ---- a string's parts, one after another
-module _ (s : List ℕ) (d : Cursor) (r : HeadRead) (is : head_read r ≡ head s d) where
-  head_refuses : (a b : ℕ) → r ≡ HeadRead.Refused a b → text_at s d ≡ refused a b
+module _ (s : List ℕ) (d : Cursor) (r : Result HeadRead Refusal) (is : head_read r ≡ head s d) where
+  pub text_ok : Passes (text_at s d) → IsOk r
   unfolding text_at
-  head_refuses a b q =
-      ap (λ (x : Got Head). then x (λ h c. then (items 8 s true h.width h.chars c) (λ us e. then (items 8 s false 4 h.runs e) (λ rs g. then (items 8 s false 1 h.phonetic g) (λ ps i. got (text_of (byte_at s (d.at + 2)) us rs ps) i))))) (sym is ∙ ap head_read q)
+  text_ok = by r is
+    where
+      by : (x : Result HeadRead Refusal) → head_read x ≡ head s d
+          → Passes (then (head s d) (λ h c. then (items 8 s true h.width h.chars c) (λ us e. then (items 8 s false 4 h.runs e) (λ rs g. then (items 8 s false 1 h.phonetic g) (λ ps i. got (text_of (byte_at s (d.at + 2)) us rs ps) i))))) → IsOk x
+      by (Ok y) q = λ p. refl
+      by (Err e) q = λ p. absurd (subst (λ (x : Got Head). Passes (then x (λ h c. then (items 8 s true h.width h.chars c) (λ us e. then (items 8 s false 4 h.runs e) (λ rs g. then (items 8 s false 1 h.phonetic g) (λ ps i. got (text_of (byte_at s (d.at + 2)) us rs ps) i)))))) (sym q) p)
 
-  pub text_refused : (a b : ℕ) → r ≡ HeadRead.Refused a b → Passes (text_at s d) → ⊥
-  text_refused a b q h = subst Passes (head_refuses a b q) h
+  module _ (y : HeadRead) (q : r ≡ Ok y) where
+    abbrev h : Head
+    h = y.head
 
-  module _ (h : Head) (c : Cursor) (q : r ≡ HeadRead.Whole h c) where
+    abbrev c : Cursor
+    c = y.chars
+
     abbrev chars_x : Got (List ℕ)
     chars_x = items 8 s true h.width h.chars c
 
@@ -75,14 +84,14 @@ module _ (s : List ℕ) (d : Cursor) (r : HeadRead) (is : head_read r ≡ head s
         by (got v e) k t = let n = (need_is 8 3 d v e k).here in omega arith
         by (refused n o) k t = absurd (refused_not t)
 
-    pub text_width : Item true h.width
-    text_width =
-        let a = head_some s d c h r is q in
-        let b = head_small s d c h r is q in
-        record { some = a; few = omega arith; even = λ e. omega arith; char = λ e. b }
+    pub text_some : 1 ≤ y.head.width
+    text_some = head_some s d y r is q
+
+    pub text_small : y.head.width ≤ 2
+    text_small = head_small s d y r is q
 
     pub text_inside : Inside s d → Inside s c
-    text_inside inside = head_inside s d c h r is q inside
+    text_inside inside = head_inside s d y r is q inside
 
     module _ (passes : Passes (text_at s d)) where
       pub text_chars : Passes (items 8 s true h.width h.chars c)
@@ -100,10 +109,10 @@ module _ (s : List ℕ) (d : Cursor) (r : HeadRead) (is : head_read r ≡ head s
             by (refused a b) n p = absurd p
 
         -- what is read, and the same with no head
-        pub record Both (x y : Got Text) : Type 0 where
-          pub same_ends : ends x ≡ ends y
-          pub same_passes : Passes x → Passes y
-          pub pieces : Passes x → text_pieces (the_text x) [] ≡ char_pieces (byte_at s (d.at + 2)) h (list_of (items 8 s true h.width h.chars c)) ++ rest_pieces (the_text y)
+        pub record Both (x z : Got Text) : Type 0 where
+          pub same_ends : ends x ≡ ends z
+          pub same_passes : Passes x → Passes z
+          pub pieces : Passes x → text_pieces (the_text x) [] ≡ char_pieces (byte_at s (d.at + 2)) h (list_of (items 8 s true h.width h.chars c)) ++ rest_pieces (the_text z)
 
         both : Both (text_at s d) (rest_at s h g)
         unfolding rest_at
@@ -144,4 +153,4 @@ module _ (s : List ℕ) (d : Cursor) (r : HeadRead) (is : head_read r ≡ head s
               long_left (char_pieces (byte_at s (d.at + 2)) h (list_of chars_x)) (rest_pieces (the_text (rest_at s h g))) (state b o) (subst (Long (state b o)) ((both g to).pieces passes) l)
           by (refused n m) k = absurd (subst Passes k text_chars)
 
-pub ruleset text_laws = (text_byte, text_width, text_inside, text_chars, text_rest, text_to_lem, text_rest_long, text_wrote, text_long, tidy_after, items_inside)
+pub ruleset text_laws = (text_ok, text_byte, text_some, text_small, text_inside, text_chars, text_rest, text_to_lem, text_rest_long, text_wrote, text_long, items_inside)

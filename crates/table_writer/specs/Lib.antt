@@ -1,1 +1,3 @@
+pub mod Passing
+pub mod Reading
 pub mod Writing

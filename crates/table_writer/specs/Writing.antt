@@ -10,19 +10,25 @@ use Rattle.strings.specs.Table.{phonetic_bit, rich_bit, next_place, strings}
 use Rattle.flags.specs.Flags.{flags_from}
 use Rattle.table_texts.specs.Texts.{Text, text_of, text_at, the_text, kept}
 use Rattle.table_texts.specs.Written.{Piece, opens, laid_size, item_pieces, wide_bit, text_pieces, pieces_of, table_bytes}
-use Rattle.table_writer.specs.declared.Out.{Out}
+use Rattle.table_writer.specs.declared.writer.Out.{Out}
+
+-- where the writer has come to, as an Out tells it
+pub record Reached : Type 0 where
+  pub seg : ℕ
+  pub at : ℕ
+  pub room : ℕ
 
 -- what the buffer holds, and where the writer has come to in it
 pub record Wrote : Type 0 where
   pub buf : List ℕ
-  pub out : Out
+  pub out : Reached
 
-abbrev pub state : List ℕ → Out → Wrote
-state b o = record { buf = b; out = o }
+unfoldable pub state : List ℕ → Out → Wrote
+state b o = record { buf = b; out = record { seg = o.seg; at = o.at; room = o.room } }
 
 -- the size of the segment at hand, into its header
-unfoldable pub closed : List ℕ → Out → List ℕ
-closed b o = stored b (o.seg + 2) (bytes_of 2 (o.at - (o.seg + 4)))
+unfoldable pub closed : Wrote → List ℕ
+closed w = stored w.buf (w.out.seg + 2) (bytes_of 2 (w.out.at - (w.out.seg + 4)))
 
 -- bytes in the segment at hand
 unfoldable pub added : Wrote → List ℕ → Wrote
@@ -30,7 +36,7 @@ added w bs = record { buf = stored w.buf w.out.at bs; out = record { seg = w.out
 
 -- a CONTINUE after it, with nothing in it yet; its size is stored when it is closed
 unfoldable pub opened : Wrote → Wrote
-opened w = record { buf = stored (closed w.buf w.out) w.out.at (bytes_of 2 0x003c); out = record { seg = w.out.at; at = w.out.at + 4; room = 8224 } }
+opened w = record { buf = stored (closed w) w.out.at (bytes_of 2 0x003c); out = record { seg = w.out.at; at = w.out.at + 4; room = 8224 } }
 
 -- a piece
 unfoldable pub step : Wrote → Piece → Wrote
@@ -43,13 +49,9 @@ wrote w (p ∷ ps) = wrote (step w p) ps
 
 -- pieces, and the end of the table
 unfoldable pub finished : Wrote → List Piece → List ℕ
-finished w ps = closed (wrote w ps).buf (wrote w ps).out
+finished w ps = closed (wrote w ps)
 
 -- ---- what the writer's functions ask for
--- the next byte is past the segment's header
-abbrev pub Tidy : Out → Type 0
-Tidy o = o.seg + 4 ≤ o.at
-
 -- the buffer is long enough for these pieces
 unfoldable pub Long : Wrote → List Piece → Type 0
 Long w ps = w.out.at + laid_size w.out.room ps ≤ length w.buf
@@ -61,10 +63,13 @@ pub record Item (f : Bool) (w : ℕ) : Type 0 where
   pub even : w ≡ 3 → ⊥
   pub char : f ≡ true → w ≤ 2
 
--- x tells that n items of w bytes, of which `here` bytes are left in their segment, are written as they are: bytes, in one segment, into one that has `room`
--- bytes left
-pub record Stays (w v n here room : ℕ) (x : Bool) : Type 0 where
-  pub told : x ≡ true → (w ≡ 1) × (v ≡ 1) × (n ≤ here) × (n ≤ room)
+-- items that are read, as they are written with v bytes each
+abbrev pub written : Bool → ℕ → Got (List ℕ) → List Piece
+written f v x = item_pieces f v (list_of x)
+
+-- n items of w bytes are written as they are: bytes, of which `here` are left in their segment, into one that has `room` bytes left
+abbrev pub Stays : ℕ → ℕ → ℕ → ℕ → ℕ → Type 0
+Stays w v n here room = (w ≡ 1) × (v ≡ 1) × (n ≤ here) × (n ≤ room)
 
 -- ---- the parts of a string
 -- its head, from the numbers of the old one: the old flags, and whether it is wide now

@@ -1,4 +1,5 @@
-pub mod Laws
-pub mod Order
+pub mod Lists
 pub mod Renumbered
+pub mod Runs
+pub mod Segments
 pub mod TextResults

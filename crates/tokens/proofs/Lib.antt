@@ -1,4 +1,3 @@
-pub mod Bits
 pub mod Tokens
 pub mod Within
 pub mod Formula

@@ -3,145 +3,95 @@
 // positions, 53,248 slots at a time, so that the stack holds them: each window walks its own BOFs once more, and all sheets once.
 #![tactic(auto)]
 
-ghost use Rattle.std.specs.Prelude.{◌≡◌, ◌+◌, ◌≤◌, length, drop, eqb, true};
-ghost use Rattle.substream.specs.Substream.{kind_at};
+ghost use Rattle.std.specs.Prelude.{◌≡◌, ℕ, ◌≤◌, length, drop, true, unwrap_or};
 ghost use Rattle.top_level.specs.TopLevel.{all_zero, bof_kind, top_of, bof_at, bofs_from};
 ghost use Rattle.sheet_agreement.specs.Agreement.{agreement_of};
 ghost use Rattle.sheet_agreement.specs.Slots.{Marked, Empty};
 ghost use Rattle.globals.specs.Sheets.{sheets_of};
 ghost use Rattle.top_level.specs.Parts.{NamedAll, NoneLeft, EachNamed, Filled, PassedAll, Lefts, Windowed};
-ghost use Rattle.steps.specs.Choice.{pick};
-ghost use Rattle.top_level.specs.Tops.{sheet_from, followed, tail_of};
+ghost use Rattle.top_level.specs.Tops.{followed, tail_of};
 
-use globals::Bound;
+use globals::Boundsheets;
 use record::Header;
-use sheet_agreement::Agreement;
-use substream::Ended;
+use refusal::Refusal;
+use sheet_agreement::SheetKind;
 
-// What stands between the top-level substreams: a BOF of this kind, the end, or a refusal.
+// A BOF between the top-level substreams: its kind, and where its substream ends.
 #[derive(Clone, Copy)]
-pub enum Top {
-    Open(u16),
-    Done,
-    Stop { number: u8, offset: usize },
-}
-
-// How the walk of the top-level substreams ends.
-#[derive(Clone, Copy)]
-pub enum Walked {
-    Passed,
-    Refused { number: u8, offset: usize },
-}
-
-// The next top-level BOF: its kind (worksheet 1, chart 2, macro 3), and where its substream ends.
-#[derive(Clone, Copy)]
-pub enum Found {
-    Bof { kind: u32, end: usize },
-    None,
+pub struct Found {
+    pub kind: SheetKind,
+    pub end: usize,
 }
 
 // Whether all bytes from `at` on are zero.
+#[tactic(auto, unfolding(crate::specs::TopLevel::all_zero))]
 fn zeros_from(s: &[u8], at: usize) -> bool
     ensures { result ≡ all_zero (drop at s.now) }
 {
-    let mut i = at;
-    while i < s.len() {
-        if s[i] != 0 {
-            return false;
-        }
-        i += 1;
-    }
-    true
+    s.len() <= at || s[at..].iter().all(|byte| *byte == 0)
 }
 
-fn bof_kind(kind: u16) -> u32
+// By the kind that a BOF says; the type byte of a BOUNDSHEET has other numbers, so the two have a match each.
+#[tactic(auto, unfolding(crate::specs::TopLevel::bof_kind, steps::specs::Choice::pick))]
+fn bof_kind(kind: u16) -> SheetKind
     ensures { result ≡ bof_kind kind }
 {
     match kind {
-        0x0010 => 1,
-        0x0020 => 2,
-        0x0040 => 3,
-        _ => 0,
+        0x0010 => SheetKind::Worksheet,
+        0x0020 => SheetKind::Chart,
+        0x0040 => SheetKind::Macro,
+        _ => SheetKind::Other,
     }
 }
 
-// The kind that a BOF of 16 bytes says.
-fn kind_at(s: &[u8], at: usize, size: usize) -> u16
-    requires { (at + 4 + size ≤ length s.now) × (size ≡ 16) }
-    ensures { result ≡ kind_at s.now at }
-{
-    byte_numbers::u16_at(s, at + 6)
-}
-
-pub fn top_at(s: &[u8], at: usize) -> Top
+// The kind of the BOF that stands between the top-level substreams, as the BOF says it; none at their end.
+#[tactic(auto, using(record::proofs::Laws::body_within), unfolding(crate::specs::TopLevel::top_of, steps::specs::Choice::pick))]
+pub fn top_at(s: &[u8], at: usize) -> Result<Option<u16>, Refusal>
     ensures { result ≡ top_of s.now at }
 {
     if zeros_from(s, at) {
-        return Top::Done;
+        return Ok(None);
     }
     match record::header_at(s, at) {
         Header::Record {
-            kind: id,
-            size,
+            kind: 0x0809,
+            size: 16,
             end: _,
         } => {
-            if id != 0x0809 {
-                return Top::Stop {
+            let kind = byte_numbers::u16_at(s, at + 6);
+            if bof_kind(kind) == SheetKind::Other {
+                return Err(Refusal {
                     number: 4,
                     offset: at,
-                };
+                });
             }
-            if size != 16 {
-                return Top::Stop {
-                    number: 6,
-                    offset: at,
-                };
-            }
-            let kind = kind_at(s, at, size);
-            if bof_kind(kind) == 0 {
-                return Top::Stop {
-                    number: 4,
-                    offset: at,
-                };
-            }
-            Top::Open(kind)
+            Ok(Some(kind))
         }
-        Header::Cut => Top::Stop {
+        Header::Record { kind, .. } => Err(Refusal {
+            number: if kind == 0x0809 { 6 } else { 4 },
+            offset: at,
+        }),
+        Header::Cut => Err(Refusal {
             number: 2,
             offset: at,
-        },
-        Header::End => Top::Done,
+        }),
+        Header::End => Ok(None),
     }
 }
 
 // The BOF at a place between the top-level substreams.
-fn bof_at(s: &[u8], unique: u32, at: usize) -> Found
+#[tactic(auto, using(crate::proofs::Bofs::room_open), unfolding(crate::specs::TopLevel::bof_at))]
+fn bof_at(s: &[u8], unique: u32, at: usize) -> Option<Found>
     ensures { result ≡ bof_at s.now unique at }
 {
-    match top_at(s, at) {
-        Top::Open(kind) => match substream::walk(s, kind, unique, at, 4) {
-            Ended::At(end) => Found::Bof {
-                kind: bof_kind(kind),
-                end,
-            },
-            Ended::Refused {
-                number: _,
-                offset: _,
-            } => Found::None,
-        },
-        Top::Done => Found::None,
-        Top::Stop {
-            number: _,
-            offset: _,
-        } => Found::None,
-    }
-}
-
-// How the walk of the top-level substreams ends, with the place that the sheets were followed to.
-#[derive(Clone, Copy)]
-pub enum Tail {
-    Passed(usize),
-    Refused { number: u8, offset: usize },
+    let Ok(Some(kind)) = top_at(s, at) else {
+        return None;
+    };
+    let end = substream::walk(s, kind, unique, at, 4).ok()?;
+    Some(Found {
+        kind: bof_kind(kind),
+        end,
+    })
 }
 
 // The BOFs of a window that are left: they are all named, and the next BOF, if there is one, stands at this place; or the first that no sheet names.
@@ -151,164 +101,135 @@ pub enum Remaining {
     Free(usize),
 }
 
-// What a window gives: the first of its sheets that isn't right; if all are, the first of its BOFs that no sheet names; where the next window starts, 0 if
-// there is none; and the place of the next BOF.
+// What a window gives: the first of its sheets that isn't right; if all are, the first of its BOFs that no sheet names; where the next window starts, if
+// there is one; and the place of the next BOF.
 #[derive(Clone, Copy)]
 pub struct Window {
-    pub fault: Agreement,
-    pub free: Agreement,
-    pub hi: usize,
+    pub fault: Option<usize>,
+    pub free: Option<usize>,
+    pub next: Option<usize>,
     pub at: usize,
 }
 
-// Puts each BOF from a place on into its slot, up to the window's last slot. Gives the place of the next BOF, or 0 if there is none.
-fn fill(s: &[u8], unique: u32, from: usize, lo: usize, slots: &mut [u8; 53248]) -> usize
-    requires { (length slots.old ≡ 53248) × Empty slots.old × (lo ≤ from) }
-    ensures { (length slots.new ≡ 53248) × Filled s.now unique from lo slots.new result }
+// Puts each BOF from a place on into its slot, up to the window's last slot. Gives the place of the next BOF, if there is one.
+// Here and below the window's start and the place stay two parameters: the place moves, and a type of both would say again at each step that the window stays.
+#[tactic(auto, using(crate::proofs::Laws::fill_laws))]
+fn fill(s: &[u8], unique: u32, from: usize, lo: usize, slots: &mut [u8; 53248]) -> Option<usize>
+    requires { Empty slots.old × (lo ≤ from) }
+    ensures { Filled s.now unique from lo slots.new result }
 {
     let mut at = from;
-    loop {
-        if s.len() <= at {
-            return 0;
-        }
+    // The BOF's own substream says where the next one stands, and the window may be full before it is walked: there is no index to count.
+    while at < s.len() {
         let d = at - lo;
         if 1277952 <= d {
-            return at;
+            return Some(at);
         }
-        match bof_at(s, unique, at) {
-            Found::Bof { kind, end } => {
-                let c = sheet_agreement::slot_of(d, kind);
-                slots[d / 24] = c;
-                at = end;
-            }
-            Found::None => {
-                return 0;
-            }
-        }
+        let bof = bof_at(s, unique, at)?;
+        slots[d / 24] = sheet_agreement::slot_of(d, bof.kind);
+        at = bof.end;
     }
+    None
 }
 
 // Takes the BOF that each sheet of the window names out of its slot, up to a sheet whose BOF isn't there.
-fn pass(s: &[u8], lo: usize, hi: usize, slots: &mut [u8; 53248]) -> Agreement
-    requires { length slots.old ≡ 53248 }
+#[tactic(auto, using(crate::proofs::Laws::pass_laws))]
+fn pass(s: &[u8], lo: usize, hi: Option<usize>, slots: &mut [u8; 53248]) -> Option<usize>
     ensures { PassedAll slots.old slots.new lo hi (sheets_of s.now) result }
 {
-    let mut p: usize = 20;
-    loop {
-        match globals::boundsheet_at(s, p) {
-            Bound::Sheet {
-                header,
-                position,
-                kind,
-                next,
-            } => {
-                let q = byte_numbers::u32_as_usize(position);
-                if sheet_agreement::in_window(lo, hi, q) {
-                    if sheet_agreement::slot_has(slots, lo, q, kind) {
-                        slots[(q - lo) / 24] = 0;
-                        p = next;
-                    } else {
-                        return Agreement::Disagree(header);
-                    }
-                } else {
-                    p = next;
-                }
+    for sheet in Boundsheets::of(s) {
+        let q = sheet.position as usize;
+        if sheet_agreement::in_window(lo, hi, q) {
+            if !sheet_agreement::slot_has(slots, lo, q, sheet.kind) {
+                return Some(sheet.header);
             }
-            Bound::Other(next) => {
-                p = next;
-            }
-            Bound::Done => {
-                return Agreement::Agree;
-            }
+            slots[(q - lo) / 24] = 0;
         }
     }
+    None
 }
 
 // The first BOF of the window that is still in its slot.
-fn left(s: &[u8], unique: u32, from: usize, lo: usize, hi: usize, slots: &[u8; 53248]) -> Remaining
-    requires { (lo ≤ from) × (hi ≤ length s.now) × Marked slots.now lo hi (bofs_from s.now unique from) (sheets_of s.now) }
+#[tactic(auto, using(crate::proofs::Laws::left_laws))]
+fn left(
+    s: &[u8],
+    unique: u32,
+    from: usize,
+    lo: usize,
+    hi: Option<usize>,
+    slots: &[u8; 53248],
+) -> Remaining
+    requires { (lo ≤ from) × ((h : ℕ) → hi ≡ Some h → h ≤ length s.now) × Marked slots.now lo hi (bofs_from s.now unique from) (sheets_of s.now) }
     ensures { Lefts s.now unique from hi result }
 {
     let mut at = from;
-    loop {
-        if sheet_agreement::in_window(lo, hi, at) {
-            match bof_at(s, unique, at) {
-                Found::Bof { kind, end } => {
-                    if sheet_agreement::slot_has(slots, lo, at, kind) {
-                        return Remaining::Free(at);
-                    }
-                    at = end;
-                }
-                Found::None => {
-                    return Remaining::Named(s.len());
-                }
-            }
-        } else {
-            return Remaining::Named(at);
+    // The BOF's own substream says where the next one stands: there is no index to count.
+    while sheet_agreement::in_window(lo, hi, at) {
+        let Some(bof) = bof_at(s, unique, at) else {
+            return Remaining::Named(s.len());
+        };
+        if sheet_agreement::slot_has(slots, lo, at, bof.kind) {
+            return Remaining::Free(at);
         }
+        at = bof.end;
     }
+    Remaining::Named(at)
 }
 
 // Whether all slots are empty. Every one is looked at, without a branch: this is done sixteen at a time.
 fn none_left(slots: &[u8; 53248]) -> bool
     ensures { result ≡ true → NoneLeft slots.now }
 {
-    let mut sum: usize = 0;
-    let mut i: usize = 0;
-    while i < 53248 {
-        sum += byte_numbers::byte_as_usize(slots[i]);
-        i += 1;
-    }
-    sum == 0
+    slots.iter().fold(0, |any, slot| any | slot) == 0
 }
 
 // What is left of the window. Only where a slot isn't empty are its BOFs walked again, for the first that no sheet names.
+#[tactic(auto, using(crate::proofs::Laws::none_each))]
 fn unnamed(
     s: &[u8],
     unique: u32,
     from: usize,
     lo: usize,
-    hi: usize,
+    hi: Option<usize>,
     slots: &[u8; 53248],
 ) -> Remaining
-    requires { (lo ≤ from) × (hi ≤ length s.now) × Marked slots.now lo hi (bofs_from s.now unique from) (sheets_of s.now) × (EachNamed s.now unique from lo hi → NamedAll s.now unique from hi (pick (eqb hi 0) (length s.now) hi)) }
+    requires { (lo ≤ from) × ((h : ℕ) → hi ≡ Some h → h ≤ length s.now) × Marked slots.now lo hi (bofs_from s.now unique from) (sheets_of s.now) × (EachNamed s.now unique from lo hi → NamedAll s.now unique from hi (unwrap_or hi (length s.now))) }
     ensures { Lefts s.now unique from hi result }
 {
     if none_left(slots) {
-        if hi == 0 {
-            return Remaining::Named(s.len());
-        }
-        return Remaining::Named(hi);
+        return Remaining::Named(hi.unwrap_or(s.len()));
     }
     left(s, unique, from, lo, hi, slots)
 }
 
 // With empty slots.
 fn with_slots(s: &[u8], unique: u32, from: usize, lo: usize, slots: &mut [u8; 53248]) -> Window
-    requires { (length slots.old ≡ 53248) × Empty slots.old × (lo ≤ from) }
+    requires { Empty slots.old × (lo ≤ from) }
     ensures { Windowed s.now unique from lo result }
 {
-    let hi = fill(s, unique, from, lo, slots);
-    match pass(s, lo, hi, slots) {
-        Agreement::Disagree(header) => Window {
-            fault: Agreement::Disagree(header),
-            free: Agreement::Agree,
-            hi,
-            at: hi,
+    let next = fill(s, unique, from, lo, slots);
+    let fault = pass(s, lo, next, slots);
+    let end = next.unwrap_or(s.len());
+    if fault.is_some() {
+        return Window {
+            fault,
+            free: None,
+            next,
+            at: end,
+        };
+    }
+    match unnamed(s, unique, from, lo, next, slots) {
+        Remaining::Named(at) => Window {
+            fault,
+            free: None,
+            next,
+            at,
         },
-        Agreement::Agree => match unnamed(s, unique, from, lo, hi, slots) {
-            Remaining::Named(at) => Window {
-                fault: Agreement::Agree,
-                free: Agreement::Agree,
-                hi,
-                at,
-            },
-            Remaining::Free(start) => Window {
-                fault: Agreement::Agree,
-                free: Agreement::Disagree(start),
-                hi,
-                at: hi,
-            },
+        Remaining::Free(start) => Window {
+            fault,
+            free: Some(start),
+            next,
+            at: end,
         },
     }
 }
@@ -317,136 +238,79 @@ fn window_from(s: &[u8], unique: u32, from: usize, lo: usize) -> Window
     requires { lo ≤ from }
     ensures { Windowed s.now unique from lo result }
 {
+    // No heap: a window's slots are what the stack has room for.
     let mut slots = [0u8; 53248];
     with_slots(s, unique, from, lo, &mut slots)
 }
 
-// A window after the other; of their refusals the sooner.
-fn by_slots(s: &[u8], unique: u32, from: usize) -> Agreement
+// A window after the other; of their faults the sooner.
+#[tactic(auto, using(crate::proofs::Laws::going_laws))]
+fn by_slots(s: &[u8], unique: u32, from: usize) -> Option<usize>
     ensures { result ≡ agreement_of (sheets_of s.now) (bofs_from s.now unique from) }
 {
     let mut lo: usize = 0;
     let mut at = from;
-    let mut fault = Agreement::Agree;
-    let mut free = Agreement::Agree;
+    let mut fault = None;
+    let mut free = None;
+    // Each window says where the next one starts, if there is one: there is no index to count.
     loop {
         let w = window_from(s, unique, at, lo);
-        let hi = w.hi;
-        let f = w.fault;
-        let g = w.free;
-        fault = sheet_agreement::first_in_stream(fault, f);
-        free = sheet_agreement::or_else(free, g);
-        if hi == 0 {
-            return sheet_agreement::or_else(fault, free);
-        }
-        lo = hi;
-        at = w.at;
-    }
-}
-
-// The next BOUNDSHEET from a place on.
-fn sheet_from(s: &[u8], from: usize) -> Bound
-    ensures { result ≡ sheet_from s.now from }
-{
-    let mut p = from;
-    loop {
-        match globals::boundsheet_at(s, p) {
-            Bound::Sheet {
-                header,
-                position,
-                kind,
-                next,
-            } => {
-                return Bound::Sheet {
-                    header,
-                    position,
-                    kind,
-                    next,
-                };
+        fault = sheet_agreement::first_in_stream(fault, w.fault);
+        free = free.or(w.free);
+        match w.next {
+            Some(next) => {
+                lo = next;
+                at = w.at;
             }
-            Bound::Other(next) => {
-                p = next;
-            }
-            Bound::Done => {
-                return Bound::Done;
-            }
+            None => return fault.or(free),
         }
     }
 }
 
-// The place after the next sheet, if it names the BOF at `at` with its kind; else, and from then on, one past the stream's length.
-fn follow(s: &[u8], p: usize, at: usize, of: u32) -> usize
-    requires { length s.now ≤ 16777216 }
+// The place after the next sheet, if it names the BOF at `at` with its kind; none if not, and from then on.
+#[tactic(auto, unfolding(crate::specs::Tops::followed, steps::specs::Choice::pick))]
+fn follow(s: &[u8], p: Option<usize>, at: usize, of: SheetKind) -> Option<usize>
     ensures { result ≡ followed s.now p at of }
 {
-    let lost = s.len() + 1;
-    if s.len() < p {
-        return lost;
-    }
-    match sheet_from(s, p) {
-        Bound::Sheet {
-            header: _,
-            position,
-            kind,
-            next,
-        } => {
-            if byte_numbers::u32_as_usize(position) != at {
-                return lost;
-            }
-            if kind != of {
-                return lost;
-            }
-            next
-        }
-        Bound::Other(_) => lost,
-        Bound::Done => lost,
+    let sheet = globals::next_sheet(s, p?)?;
+    if sheet.position as usize == at && sheet.kind == of {
+        Some(sheet.next)
+    } else {
+        None
     }
 }
 
-// The top-level substreams after the globals; the sheets are followed as the BOFs come by.
-pub fn walk_top_level(s: &[u8], unique: u32, from: usize) -> Tail
-    requires { length s.now ≤ 16777216 }
+// The top-level substreams after the globals: how far the sheets were followed as the BOFs came by.
+#[tactic(auto, using(crate::proofs::Following::tail_laws))]
+pub fn walk_top_level(s: &[u8], unique: u32, from: usize) -> Result<Option<usize>, Refusal>
     ensures { result ≡ tail_of s.now unique from }
 {
     let mut at = from;
-    let mut p: usize = 20;
-    loop {
-        match top_at(s, at) {
-            Top::Open(kind) => match substream::walk(s, kind, unique, at, 4) {
-                Ended::At(end) => {
-                    p = follow(s, p, at, bof_kind(kind));
-                    at = end;
-                }
-                Ended::Refused { number, offset } => {
-                    return Tail::Refused { number, offset };
-                }
-            },
-            Top::Done => {
-                return Tail::Passed(p);
-            }
-            Top::Stop { number, offset } => {
-                return Tail::Refused { number, offset };
-            }
-        }
+    let mut sheets = Some(20);
+    // The substream itself says where the next one starts, and may be refused: there is no index to count.
+    while let Some(kind) = top_at(s, at)? {
+        let end = substream::walk(s, kind, unique, at, 4)?;
+        sheets = follow(s, sheets, at, bof_kind(kind));
+        at = end;
     }
+    Ok(sheets)
 }
 
-// Sheets that named the BOFs in their order need no slots.
-pub fn sheet_list_agreement(s: &[u8], unique: u32, from: usize, p: usize) -> Agreement
-    requires { Tail.Passed p ≡ tail_of s.now unique from }
+// The first BOUNDSHEET or BOF at fault. Sheets that named the BOFs in their order need no slots.
+#[tactic(auto, using(crate::proofs::Following::settled_agree))]
+pub fn sheet_list_agreement(
+    s: &[u8],
+    unique: u32,
+    from: usize,
+    sheets: Option<usize>,
+) -> Option<usize>
+    requires { Ok sheets ≡ tail_of s.now unique from }
     ensures { result ≡ agreement_of (sheets_of s.now) (bofs_from s.now unique from) }
 {
-    if s.len() < p {
-        return by_slots(s, unique, from);
+    if let Some(p) = sheets {
+        if globals::next_sheet(s, p).is_none() {
+            return None;
+        }
     }
-    match sheet_from(s, p) {
-        Bound::Sheet {
-            header: _,
-            position: _,
-            kind: _,
-            next: _,
-        } => by_slots(s, unique, from),
-        Bound::Other(_) => by_slots(s, unique, from),
-        Bound::Done => Agreement::Agree,
-    }
+    by_slots(s, unique, from)
 }

@@ -1,48 +1,38 @@
--- Trailing data as the code comes to it, and that it lies within the bytes that are left. Assumes nothing.
-use Prim.Native.Nat.{ℕ, zero, suc, ◌+◌, ◌-◌, ◌*◌, ◌^◌, ◌≤◌, ◌<◌}
-use mathlib.Core.Path.{◌≡◌, refl, sym, ◌∙◌, ap, ap₂}
-use mathlib.Core.Bool.{Bool}
-use mathlib.Core.List.{List}
-use native.Mathlib.Omega.{arith}
-use native.Mathlib.Nat.{mul-le-mul}
-use borrow.Author.Tests.{ltb-false}
-use mir.Syntax.{w64}
-use mir.Val.{Fits}
-use lib.Bits.{bit_and, and_mask}
-use lib.Dec.{ltb}
-use lib.ListN.{length, take, drop, length-drop}
-use lib.Seq.{take_all}
-use Rattle.steps.proofs.Choice.{pick_true, pick_false, pick_nlt, picks, pick_by, pick_any}
+-- That trailing data lies within the bytes that are left. Assumes nothing.
+use Rattle.std.proofs.Common.{ℕ, zero, suc, ◌+◌, ◌-◌, ◌^◌, ◌<◌, ◌*◌, ◌%◌, ◌≤◌, ◌≡◌, List, Option, Some, None, option_and_then, Bool, true, false, length, take, drop, length-drop, ltb, ltb-false, refl, sym, ap, ◌∙◌, bit_and, Fits, w64, arith}
+use Rattle.std.proofs.Math.Seq.{take_all}
+use Rattle.std.specs.Bool.{then_some}
+use Rattle.std.proofs.lemmas.Nat.{and_mask}
+use Rattle.steps.specs.Choice.{pick}
+use Rattle.steps.proofs.Choice.{pick_by, pick_any}
 use Rattle.byte_numbers.specs.Bytes.{byte_at, u16_at}
-use Rattle.trailing.specs.declared.Data.{Data}
-use Rattle.trailing.specs.declared.Data.TheVariants.{Takes, Bad}
-use Rattle.trailing.specs.Trailing.{uncut, sized_of, text_of, truth_of, error_of, element_by, element_of, after, elements_of, array_of, areas_of}
+use Rattle.trailing.specs.Trailing.{uncut, sized_of, text_of, truth_of, error_of, element_by, element_of, elements_of, array_of, areas_of}
 
 -- ---- within what is left
-unfoldable pub DataWithin : ℕ → Data → Type 0
-DataWithin left (Takes size) = size ≤ left
-DataWithin left Bad = Unit
+unfoldable pub DataWithin : ℕ → Option ℕ → Type 0
+DataWithin left (Some size) = size ≤ left
+DataWithin left None = Unit
 
 module _ (left : ℕ) where
-  bad : DataWithin left Bad
+  bad : DataWithin left None
   unfolding DataWithin
   bad = tt
 
-  takes : (size : ℕ) → size ≤ left → DataWithin left (Takes size)
+  takes : (size : ℕ) → size ≤ left → DataWithin left (Some size)
   unfolding DataWithin
   takes size h = h
 
-  pub takes_within : (size : ℕ) (x : Data) → DataWithin left x → x ≡ Takes size → size ≤ left
+  pub takes_within : (size : ℕ) (x : Option ℕ) → DataWithin left x → x ≡ Some size → size ≤ left
   unfolding DataWithin
   takes_within size x h e = rw e at h
 
 module _ (t : List ℕ) where
-  uncut_in : (size : ℕ) (x : Data) → (size ≤ length t → DataWithin (length t) x) → DataWithin (length t) (uncut size t x)
+  uncut_in : (size : ℕ) (x : Option ℕ) → (size ≤ length t → DataWithin (length t) x) → DataWithin (length t) (uncut size t x)
   uncut_in size x f = pick_by (DataWithin (length t)) (ltb (length t) size) (λ e. bad (length t)) (λ e. f (ltb-false (length t) size e))
 
   sized_in : (size : ℕ) → DataWithin (length t) (sized_of size t)
   unfolding sized_of
-  sized_in size = uncut_in size (Takes size) (λ h. takes (length t) size h)
+  sized_in size = uncut_in size (Some size) (λ h. takes (length t) size h)
 
   text_in : DataWithin (length t) (text_of t)
   unfolding text_of
@@ -67,9 +57,9 @@ unfolding elements_of
 elements_in zero t at h = takes (length t) at h
 elements_in (suc n) t at h = go (λ next l. elements_in n t next l) (element_of (drop at t)) (element_in (drop at t))
   where
-    go : ((next : ℕ) → next ≤ length t → DataWithin (length t) (elements_of n t next)) → (x : Data) → DataWithin (length (drop at t)) x → DataWithin (length t) (after (λ size. elements_of n t (at + size)) x)
-    go ih (Takes size) w = ih (at + size) (omega (arith, takes_within (length (drop at t)) size (Takes size) w refl, length-drop at t))
-    go ih Bad w = bad (length t)
+    go : ((next : ℕ) → next ≤ length t → DataWithin (length t) (elements_of n t next)) → (x : Option ℕ) → DataWithin (length (drop at t)) x → DataWithin (length t) (option_and_then (λ size. elements_of n t (at + size)) x)
+    go ih (Some size) w = ih (at + size) (omega (arith, takes_within (length (drop at t)) size (Some size) w refl, length-drop at t))
+    go ih None w = bad (length t)
 
 module _ (t : List ℕ) where
   pub array_within : DataWithin (length t) (array_of t)
@@ -81,65 +71,39 @@ module _ (t : List ℕ) where
   areas_within = uncut_in t 2 _ (λ h. sized_in t _)
 
 -- ---- as the code comes to them
-pub told : {r b v : Bool} → r ≡ b → r ≡ v → b ≡ v
-told e h = sym e ∙ h
+-- what a call said of its test, r, after a size that was asked for
+pub some_if : (r t : Bool) (n m : ℕ) (x : Option ℕ) → x ≡ then_some r n → r ≡ t → n ≡ m → x ≡ pick t (Some m) None
+unfolding pick
+some_if true t n m x d e f = rw (← e, d, f) refl
+some_if false t n m x d e f = rw (← e, d) refl
 
-pub ruleset tested = (picks, pick_true, pick_false, told)
+pub characters : (t : List ℕ) (x : Option ℕ) (n m w : ℕ) → x ≡ sized_of (4 + n * (1 + w)) t → n ≡ m → m ≡ u16_at t 1 → w ≡ bit_and (byte_at t 3) 1 → x ≡ sized_of (4 + u16_at t 1 * (1 + byte_at t 3 % 2)) t
+characters t x n m w d e f g = let b : w ≡ byte_at t 3 % 2 = g ∙ and_mask (byte_at t 3) 1 in rw (← b, ← f, ← e) d
 
-module _ (t : List ℕ) (x : Data) where
-  pub text_narrow : (w n : ℕ) → w ≡ u16_at t 1 → n ≡ w → bit_and (byte_at t 3) 1 ≡ 0 → 4 ≤ length t → x ≡ sized_of (4 + n) t → x ≡ text_of t
-  unfolding text_of
-  text_narrow w n d e z h f =
-      let size : 4 + n ≡ 4 + u16_at t 1 * (1 + 0) = omega (arith, d, e) in
-      pick_nlt _ _ _ _ _ h (rw (← and_mask (byte_at t 3) 1, z, ← size) f)
-
-  pub text_wide : (w n : ℕ) → w ≡ u16_at t 1 → n ≡ w → (bit_and (byte_at t 3) 1 ≡ 0 → ⊥) → 4 ≤ length t → x ≡ sized_of (4 + 2 * n) t → x ≡ text_of t
-  unfolding text_of
-  text_wide w n d e z h f =
-      let bit : bit_and (byte_at t 3) 1 ≡ 1 = omega (arith, and_mask (byte_at t 3) 1) in
-      let size : 4 + 2 * n ≡ 4 + u16_at t 1 * (1 + 1) = omega (arith, d, e) in
-      pick_nlt _ _ _ _ _ h (rw (← and_mask (byte_at t 3) 1, bit, ← size) f)
-
-  pub array_at : (a w b : ℕ) → a ≡ byte_at t 0 → w ≡ u16_at t 1 → b ≡ w → 3 ≤ length t → x ≡ elements_of ((a + 1) * (b + 1)) t 3 → x ≡ array_of t
-  unfolding array_of
-  array_at a w b d e f h i = pick_nlt _ _ _ _ _ h (i ∙ ap₂ (λ (p q : ℕ). elements_of ((p + 1) * (q + 1)) t 3) d (f ∙ e))
-
-  pub areas_at : (w n : ℕ) → w ≡ u16_at t 0 → n ≡ w → 2 ≤ length t → x ≡ sized_of (2 + 8 * n) t → x ≡ areas_of t
-  unfolding areas_of
-  areas_at w n d e h f = pick_nlt _ _ _ _ _ h (f ∙ ap (λ (p : ℕ). sized_of (2 + 8 * p) t) (e ∙ d))
-
-pub product_fits : (a b : ℕ) → a < 256 → b < 65536 → Fits w64 ((a + 1) * (b + 1))
-product_fits a b p q = record { fits = omega (arith, mul-le-mul {n₁ = a + 1} {m₁ = b + 1} {n₂ = 256} {m₂ = 65536} (omega arith) (omega arith)) }
-
-pub ruleset read = (picks, text_narrow, text_wide, array_at, areas_at)
-
--- ---- one element after the other: e is the answer from the first on
-module _ (t : List ℕ) (left at : ℕ) (e : Data) (on : elements_of left t at ≡ e) where
-  pub elements_done : left ≤ 0 → Takes at ≡ e
+-- ---- one element after the other: e is the answer from the first on, and i of n elements are behind
+module _ (t : List ℕ) (n i at : ℕ) (e : Option ℕ) (on : elements_of (n - i) t at ≡ e) where
+  pub elements_done : n ≤ i → Some at ≡ e
   unfolding elements_of
-  elements_done h = let z : left ≡ 0 = omega arith in rw z at on
+  elements_done h = let z : n - i ≡ 0 = omega arith in rw z at on
 
-  module _ (x : Data) (within : at ≤ length t) (some : 0 < left) (r : x ≡ element_of (take (length t - at) (drop at t))) where
+  module _ (x : Option ℕ) (within : at ≤ length t) (some : i < n) (r : x ≡ element_of (take (length t - at) (drop at t))) where
     whole : x ≡ element_of (drop at t)
     whole = r ∙ ap element_of (take_all (length t - at) (drop at t) (omega (arith, length-drop at t)))
 
-    stepped : after (λ size. elements_of (left - 1) t (at + size)) x ≡ e
+    stepped : option_and_then (λ size. elements_of (n - (i + 1)) t (at + size)) x ≡ e
     unfolding elements_of
-    stepped = let s : left ≡ suc (left - 1) = omega arith in rw whole (rw s at on)
+    stepped = let s : n - i ≡ suc (n - (i + 1)) = omega arith in rw whole (rw s at on)
 
-    pub elements_bad : x ≡ Bad → Bad ≡ e
+    pub elements_bad : x ≡ None → None ≡ e
     elements_bad h = rw h at stepped
 
-    pub elements_next : (size : ℕ) → x ≡ Takes size → elements_of (left - 1) t (at + size) ≡ e
+    pub elements_next : (size : ℕ) → x ≡ Some size → elements_of (n - (i + 1)) t (at + size) ≡ e
     elements_next size h = rw h at stepped
 
-    size_within : (size : ℕ) → x ≡ Takes size → size ≤ length (drop at t)
-    size_within size h = takes_within (length (drop at t)) size (element_of (drop at t)) (element_in (drop at t)) (sym whole ∙ h)
+    pub next_within : (size : ℕ) → x ≡ Some size → at + size ≤ length t
+    next_within size h = omega (arith, takes_within (length (drop at t)) size (element_of (drop at t)) (element_in (drop at t)) (sym whole ∙ h), length-drop at t)
 
-    pub next_within : (size : ℕ) → x ≡ Takes size → at + size ≤ length t
-    next_within size h = omega (arith, size_within size h, length-drop at t)
-
-    pub next_fits : (size : ℕ) → x ≡ Takes size → length t < 2 ^ 64 → Fits w64 (at + size)
+    pub next_fits : (size : ℕ) → x ≡ Some size → length t < 2 ^ 64 → Fits w64 (at + size)
     next_fits size h f = record { fits = omega (arith, next_within size h) }
 
 pub ruleset on_element = (elements_done, elements_bad, elements_next, next_within, next_fits)

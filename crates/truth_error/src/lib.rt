@@ -1,5 +1,5 @@
 // Truths and error codes: which bytes are right, for cells and for formula tokens alike.
-#![tactic(auto)]
+#![tactic(auto, unfolding(crate::specs::Boolerr::is_truth, crate::specs::Boolerr::is_error, steps::specs::Choice::pick))]
 
 ghost use Rattle.std.specs.Prelude.{◌≡◌};
 ghost use Rattle.truth_error.specs.Boolerr.{is_truth, is_error};
@@ -13,14 +13,5 @@ pub fn is_truth(b: u8) -> bool
 pub fn is_error(b: u8) -> bool
     ensures { result ≡ is_error b }
 {
-    match b {
-        0x00 => true,
-        0x07 => true,
-        0x0F => true,
-        0x17 => true,
-        0x1D => true,
-        0x24 => true,
-        0x2A => true,
-        _ => false,
-    }
+    matches!(b, 0x00 | 0x07 | 0x0F | 0x17 | 0x1D | 0x24 | 0x2A)
 }

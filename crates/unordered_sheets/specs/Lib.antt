@@ -1,1 +1,3 @@
 pub mod Unordered
+pub mod Pair
+pub mod Staged

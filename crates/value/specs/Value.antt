@@ -1,13 +1,11 @@
 -- What the value field of a cell says. A field is the number of its bytes, the lower first: its first byte is `n % 256`, its second `n / 256 % 256`.
-use Rattle.std.specs.Prelude.{ℕ, ◌/◌, ◌%◌, ◌^◌, Bool, true, false, not, ltb, eqb}
+use Rattle.std.specs.Prelude.{ℕ, ◌/◌, ◌%◌, ◌^◌, Bool, true, false, not, Option, Some, None, ltb, eqb, Float as F64}
 use Rattle.std.specs.Float.{binary64}
 use Rattle.std.specs.Float.Ieee.{of_bits}
 use Rattle.steps.specs.Choice.{pick}
 use Rattle.truth_error.specs.Boolerr.{is_truth, is_error}
 use Rattle.number.specs.Float64.{is_nan_bits, bits_of}
 use Rattle.number.specs.Rk.{means_nothing, rk_of}
-use Rattle.number.specs.declared.Rk.{Rk}
-use Rattle.number.specs.declared.Rk.TheVariants.{Number as RkNumber, Nothing as RkNothing}
 use Rattle.value.specs.declared.Field.{Field}
 use Rattle.value.specs.declared.Field.TheVariants.{NoField, Float, RkWord, TextIndex, TruthError, StoredResult}
 use Rattle.value.specs.declared.FormulaResult.{FormulaResult}
@@ -29,9 +27,9 @@ unfoldable pub float_value : ℕ → CellValue
 float_value b = pick (is_nan_bits b) (NotNumber b) (Number (of_bits binary64 b))
 
 -- a word that means nothing is refused, and so stands in no stream that passes
-abbrev pub rk_value : Rk → CellValue
-rk_value (RkNumber x) = Number x
-rk_value RkNothing = Blank
+abbrev pub rk_value : Option F64 → CellValue
+rk_value (Some x) = Number x
+rk_value None = Blank
 
 -- value byte, then byte 0 truth or 1 error
 unfoldable pub truth_error : ℕ → CellValue

@@ -1,5 +1,5 @@
 // What the value field of a cell says, and whether it is right.
-#![tactic(auto)]
+#![tactic(auto, unfolding(crate::specs::Value::float_value, crate::specs::Value::truth_error, crate::specs::Value::result_number, crate::specs::Value::marked_result, crate::specs::Value::result_of, crate::specs::Value::truth_error_fits, crate::specs::Value::marked_fits, crate::specs::Value::result_fits, number::specs::Float64::float_in, steps::specs::Choice::pick))]
 
 ghost use Rattle.std.specs.Prelude.{◌≡◌, ◌%◌};
 ghost use Rattle.value.specs.Value.{width_of, result_of, value_of, value_fits, marked_result, marked_fits, result_number};
@@ -37,6 +37,7 @@ pub enum CellValue {
     Formula(FormulaResult),
 }
 
+// A table by the kind of a field, as `address_lookup` has one of marks: no number of it is the other's.
 pub fn width_of(f: Field) -> usize
     ensures { result ≡ width_of f }
 {
@@ -50,55 +51,34 @@ pub fn width_of(f: Field) -> usize
     }
 }
 
-// The lowest byte.
-fn u16_first_byte(n: u16) -> u8
-    ensures { result ≡ n % 256 }
-{
-    (n % 256) as u8
-}
-
-fn u64_first_byte(n: u64) -> u8
-    ensures { result ≡ n % 256 }
-{
-    (n % 256) as u8
-}
-
 // ---- what a field says
 
 pub fn float_value(b: u64) -> CellValue
     ensures { result ≡ value_of Field.Float b }
 {
-    if number::is_nan(b) {
-        return CellValue::NotNumber(b);
-    }
-    CellValue::Number(number::float_of(b))
+    number::float_in(b).map_or(CellValue::NotNumber(b), CellValue::Number)
 }
 
 pub fn rk_value(w: u32) -> CellValue
     ensures { result ≡ value_of Field.RkWord w }
 {
-    match number::decode(w) {
-        number::Rk::Number(x) => CellValue::Number(x),
-        number::Rk::Nothing => CellValue::Blank,
-    }
+    number::decode(w).map_or(CellValue::Blank, CellValue::Number)
 }
 
 pub fn truth_error_value(n: u16) -> CellValue
     ensures { result ≡ value_of Field.TruthError n }
 {
+    let byte = (n % 256) as u8;
     if n >> 8 == 0 {
-        return CellValue::Truth(u16_first_byte(n));
+        return CellValue::Truth(byte);
     }
-    CellValue::Error(u16_first_byte(n))
+    CellValue::Error(byte)
 }
 
 fn number_result(b: u64) -> FormulaResult
     ensures { result ≡ result_number b }
 {
-    if number::is_nan(b) {
-        return FormulaResult::NotNumber(b);
-    }
-    FormulaResult::Number(number::float_of(b))
+    number::float_in(b).map_or(FormulaResult::NotNumber(b), FormulaResult::Number)
 }
 
 // Of a result that is no number: `kind` is its first byte, `byte` its third.
@@ -117,7 +97,7 @@ pub fn result_value(n: u64) -> FormulaResult
     ensures { result ≡ result_of n }
 {
     if n >> 48 == 0xFFFF {
-        return marked_result(u64_first_byte(n), u64_first_byte(n >> 16));
+        return marked_result((n % 256) as u8, ((n >> 16) % 256) as u8);
     }
     number_result(n)
 }
@@ -127,9 +107,10 @@ pub fn result_value(n: u64) -> FormulaResult
 pub fn truth_error_fits(n: u16) -> bool
     ensures { result ≡ value_fits Field.TruthError n }
 {
+    let byte = (n % 256) as u8;
     match n >> 8 {
-        0 => truth_error::is_truth(u16_first_byte(n)),
-        1 => truth_error::is_error(u16_first_byte(n)),
+        0 => truth_error::is_truth(byte),
+        1 => truth_error::is_error(byte),
         _ => false,
     }
 }
@@ -138,10 +119,9 @@ fn marked_fits(kind: u8, byte: u8) -> bool
     ensures { result ≡ marked_fits kind byte }
 {
     match kind {
-        0 => true,
+        0 | 3 => true,
         1 => truth_error::is_truth(byte),
         2 => truth_error::is_error(byte),
-        3 => true,
         _ => false,
     }
 }
@@ -149,8 +129,5 @@ fn marked_fits(kind: u8, byte: u8) -> bool
 pub fn result_fits(n: u64) -> bool
     ensures { result ≡ value_fits Field.StoredResult n }
 {
-    if n >> 48 == 0xFFFF {
-        return marked_fits(u64_first_byte(n), u64_first_byte(n >> 16));
-    }
-    true
+    n >> 48 != 0xFFFF || marked_fits((n % 256) as u8, ((n >> 16) % 256) as u8)
 }

@@ -1,30 +1,11 @@
-use borrow.Author.Rules.{rules}
-use Rattle.cadence.proofs.Steps.{nth_laws}
+use Rattle.std.proofs.Common.{refl, ap, ◌∙◌, ok_or}
+use Rattle.std.proofs.lemmas.Iterator.Consumers.{YieldsList-from_first, nth_from_yields_List}
+use Rattle.cadence.specs.Left.{left}
+use Rattle.cadence.specs.Steps.{pairs_from}
+use Rattle.cadence.proofs.Steps.{nth_got}
 use Rattle.cadence.proofs.nth_pair.Goals as goal
 
-pub loop-answer-init : goal.loop-answer-init
-loop-answer-init c = search (nth_laws, rules)
-
-pub next_pair-requires : goal.next_pair-requires
-next_pair-requires c = search (nth_laws, rules)
-
-pub enum_known-answer : goal.enum_known-answer
-enum_known-answer c = search (nth_laws, rules)
-
-pub returns-then-left-eq0 : goal.returns-then-left-eq0
-returns-then-left-eq0 c = search (nth_laws, rules)
-
-pub overflow_sub-left : goal.overflow_sub-left
-overflow_sub-left c = search (nth_laws, rules)
-
-pub loop-answer-smaller : goal.loop-answer-smaller
-loop-answer-smaller c = search (nth_laws, rules)
-
-pub loop-answer-preserved : goal.loop-answer-preserved
-loop-answer-preserved c = search (nth_laws, rules)
-
-pub enum_told-1 : goal.enum_told-1
-enum_told-1 c = search (nth_laws, rules)
-
-pub returns-in-End : goal.returns-in-End
-returns-in-End c = search (nth_laws, rules)
+pub returns : goal.returns
+returns c =
+    c.ok_or.ensures.value
+    ∙ nth_got c.args.s.now c.args.from c.args.n c.nth.result (nth_from_yields_List c.nth.result c.nth.new.self c.args.n c.nth.ensures.ran (YieldsList-from_first (λ x. x) left (pairs_from c.args.s.now c.args.from) refl))

@@ -1,11 +1,5 @@
-use Rattle.cell_equality.proofs.Laws.{value_laws}
+use Rattle.cell_equality.proofs.Laws.{plains_same}
 use Rattle.cell_equality.proofs.same_value.Goals as goal
 
-pub returns-then-a-b : goal.returns-then-a-b
-returns-then-a-b c = search value_laws
-
-pub returns-then-a-eq2 : goal.returns-then-a-eq2
-returns-then-a-eq2 c = search value_laws
-
-pub returns : goal.returns
-returns c = search value_laws
+pub returns-in_default : goal.returns-in_default
+returns-in_default c = plains_same _ _ _ _ _ _ (c.value_of.ensures _) (c.value_of-in_default.ensures _) c.in_default.not-Text _ c.eq.ensures

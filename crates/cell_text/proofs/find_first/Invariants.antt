@@ -3,10 +3,10 @@ use Prim.Native.Nat.{◌-◌}
 use lib.ListN.{length}
 use Rattle.cell_text.proofs.find_first.Given as goal
 
-abbrev pub invariant-loop-id : goal.invariant-loop-id
-invariant-loop-id l =
+abbrev pub invariant-loop-scanned : goal.invariant-loop-scanned
+invariant-loop-scanned l =
     Finding l.s l.from l.row l.column l.at l.level
 
-abbrev pub decreases-loop-id : goal.decreases-loop-id
-decreases-loop-id l =
+abbrev pub decreases-loop-scanned : goal.decreases-loop-scanned
+decreases-loop-scanned l =
     length l.s - l.at

@@ -1,6 +1,5 @@
 use Rattle.cell_text.proofs.Laws.{spot_in}
-use borrow.Author.Rules.{rules}
 use Rattle.cell_text.proofs.spot_in.Goals as goal
 
 pub returns : goal.returns
-returns c = search (spot_in, rules)
+returns c = spot_in _ _ _ _ _ _ _ c.first_place-start.ensures c.find_first.ensures

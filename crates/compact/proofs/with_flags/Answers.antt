@@ -1,30 +1,29 @@
-use Rattle.compact.proofs.Prepare.{with_laws}
-use borrow.Author.Rules.{rules}
+use Rattle.std.proofs.Common.{rules, refl, arith, ◌≤◌}
+use Rattle.compact.proofs.Prepare.{with_laws, with_inside, with_passes, with_plan}
 use Rattle.compact.proofs.with_flags.Goals as goal
 
-pub table_end-end-requires : goal.table_end-end-requires
-table_end-end-requires c = search (with_laws, rules)
+pub count_texts-census-requires : goal.count_texts-census-requires
+count_texts-census-requires c = search (with_laws, rules)
 
-pub count_texts-texts-requires : goal.count_texts-texts-requires
-count_texts-texts-requires c = search (with_laws, rules)
+pub invariant_of-texts : goal.invariant_of-texts
+invariant_of-texts c = record {
+  short = search (with_laws, rules);
+  few = search (with_laws, rules);
+  inside = with_inside _ _ c.requires _ c.args.g.unique c.table_end-end.ensures refl;
+  passes = with_passes _ _ c.requires _ c.args.g.unique c.table_end-end.ensures refl;
+}
 
-pub overflow_add-from : goal.overflow_add-from
-overflow_add-from c = search (with_laws, rules)
+pub overflow_cast-plan : goal.overflow_cast-plan
+overflow_cast-plan c = record { fits = search (with_laws, rules) }
 
-pub size_all-new-requires : goal.size_all-new-requires
-size_all-new-requires c = (search (with_laws, rules), search (with_laws, rules), search rules, search rules, search (with_laws, rules), search (with_laws, rules))
+pub overflow_cast-plan-2 : goal.overflow_cast-plan-2
+overflow_cast-plan-2 c = record { fits = search (with_laws, rules) }
 
-pub returns-then-new-gt16777216-clause-value : goal.returns-then-new-gt16777216-clause-value
-returns-then-new-gt16777216-clause-value c = search (with_laws, rules)
-
-pub returns-then-new-gt16777216-clause-out_after : goal.returns-then-new-gt16777216-clause-out_after
-returns-then-new-gt16777216-clause-out_after c = search (with_laws, rules)
-
-pub overflow_cast-t : goal.overflow_cast-t
-overflow_cast-t c = record { fits = search (with_laws, rules) }
-
-pub overflow_cast-t-2 : goal.overflow_cast-t-2
-overflow_cast-t-2 c = record { fits = search (with_laws, rules) }
+pub invariant_of-plan : goal.invariant_of-plan
+invariant_of-plan c = record { counted = search (with_laws, rules); sized = search (with_laws, rules) }
 
 pub finish-requires : goal.finish-requires
-finish-requires c = (search (with_laws, rules), search rules, search rules, search rules)
+finish-requires c =
+    let small : c.size_all-new.result.size ≤ 16777216 = omega arith in
+    let census = c.count_texts-census.ensures in
+    with_plan _ _ c.requires _ c.args.g.unique c.table_end-end.ensures refl _ _ refl census.0 small census.1

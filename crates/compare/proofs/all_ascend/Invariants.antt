@@ -4,10 +4,10 @@ use lib.ListN.{length}
 use Prim.Native.Nat.{◌-◌}
 use Rattle.compare.proofs.all_ascend.Given as goal
 
-abbrev pub invariant-loop-a : goal.invariant-loop-a
-invariant-loop-a l =
-    AllAscend l.s (sheets_from l.s l.a) → AllAscend l.s (sheets_of l.s)
+abbrev pub invariant-loop-sheet : goal.invariant-loop-sheet
+invariant-loop-sheet l =
+    AllAscend l.s (sheets_from l.s l.from) → AllAscend l.s (sheets_of l.s)
 
-abbrev pub decreases-loop-a : goal.decreases-loop-a
-decreases-loop-a l =
-    length l.s - l.a
+abbrev pub decreases-loop-sheet : goal.decreases-loop-sheet
+decreases-loop-sheet l =
+    length l.s - l.from

@@ -1,44 +1,28 @@
-use Rattle.compare.proofs.Laws.{compare_laws, kept_laws}
-use Rattle.string_links.proofs.Laws.{tabled}
-use Rattle.workbook.proofs.Laws.{short}
-use borrow.Author.Rules.{rules}
+use mathlib.Core.Path.{ap, ◌∙◌}
+use native.Mathlib.Omega.{arith}
+use Rattle.std.proofs.lemmas.Grind.{common_steps}
+use lib.ListN.{length}
+use Rattle.cell_differences.specs.Merge.{puts, put_to}
+use Rattle.compare.proofs.Laws.{refuses_first, refuses_second, twice_first, twice_second, all_listed, words_are, listed_answer, listed_buffer}
 use Rattle.compare.proofs.compare.Goals as goal
 
-pub returns-then-twice_in-clause-value : goal.returns-then-twice_in-clause-value
-returns-then-twice_in-clause-value c = search compare_laws
+pub returns-in_err-g : goal.returns-in_err-g
+returns-in_err-g c = let r = refuses_first _ _ c.args.from c.checked.ensures _ c.in_err-g.was in record { value = let a = r.answer (length c.args.out.now) in grind (arith, common_steps, a); out_after = r.buffer _ }
 
-pub returns-then-twice_in-clause-out_after : goal.returns-then-twice_in-clause-out_after
-returns-then-twice_in-clause-out_after c = search kept_laws
+pub returns-in_err-h : goal.returns-in_err-h
+returns-in_err-h c = let r = refuses_second _ _ c.args.from c.checked.ensures _ c.in_ok-g.was c.checked-2.ensures _ c.in_err-h.was in record { value = let a = r.answer (length c.args.out.now) in grind (arith, common_steps, a); out_after = r.buffer _ }
 
-pub returns-then-twice_in-2-clause-value : goal.returns-then-twice_in-2-clause-value
-returns-then-twice_in-2-clause-value c = search compare_laws
+pub returns-in_err-up : goal.returns-in_err-up
+returns-in_err-up c = let r = twice_first _ _ c.args.from c.checked.ensures _ c.in_ok-g.was c.checked-2.ensures _ c.in_ok-h.was c.ascends_once.ensures _ c.in_err-up.was in record { value = let a = r.answer (length c.args.out.now) in grind (arith, common_steps, a); out_after = r.buffer _ }
 
-pub returns-then-twice_in-2-clause-out_after : goal.returns-then-twice_in-2-clause-out_after
-returns-then-twice_in-2-clause-out_after c = search kept_laws
+pub returns-in_err-down : goal.returns-in_err-down
+returns-in_err-down c = let r = twice_second _ _ c.args.from c.checked.ensures _ c.in_ok-g.was c.checked-2.ensures _ c.in_ok-h.was c.ascends_once.ensures _ c.in_ok-up.was c.ascends_once-2.ensures _ c.in_err-down.was in record { value = let a = r.answer (length c.args.out.now) in grind (arith, common_steps, a); out_after = r.buffer _ }
 
-pub list_both-found-requires : goal.list_both-found-requires
-list_both-found-requires c = (search tabled, search tabled, search rules, search rules, search short, search short)
-
-pub returns-then-room-found-clause-value : goal.returns-then-room-found-clause-value
-returns-then-room-found-clause-value c = search compare_laws
-
-pub returns-then-room-found-clause-out_after : goal.returns-then-room-found-clause-out_after
-returns-then-room-found-clause-out_after c = search compare_laws
-
-pub returns-in-Wrong-clause-value : goal.returns-in-Wrong-clause-value
-returns-in-Wrong-clause-value c = search compare_laws
-
-pub returns-in-Wrong-clause-out_after : goal.returns-in-Wrong-clause-out_after
-returns-in-Wrong-clause-out_after c = search kept_laws
-
-pub returns-in-Wrong-check_with-clause-value : goal.returns-in-Wrong-check_with-clause-value
-returns-in-Wrong-check_with-clause-value c = search compare_laws
-
-pub returns-in-Wrong-check_with-clause-out_after : goal.returns-in-Wrong-check_with-clause-out_after
-returns-in-Wrong-check_with-clause-out_after c = search kept_laws
-
-pub returns-else-room-found-clause-value : goal.returns-else-room-found-clause-value
-returns-else-room-found-clause-value c = search compare_laws
-
-pub returns-else-room-found-clause-out_after : goal.returns-else-room-found-clause-out_after
-returns-else-room-found-clause-out_after c = search compare_laws
+pub returns : goal.returns
+returns c =
+    let e = all_listed _ _ c.args.from c.checked.ensures _ c.in_ok-g.was c.checked-2.ensures _ c.in_ok-h.was c.ascends_once.ensures _ c.in_ok-up.was c.ascends_once-2.ensures _ c.in_ok-down.was in
+    let b = words_are _ _ c.args.from c.table_of.result c.table_of-2.result _ _ c.table_of.ensures c.table_of-2.ensures in
+    record {
+      value = listed_answer _ _ e _ _ (c.list_both-found.ensures.value ∙ ap (put_to (length c.args.out.now) 0) b) _ c.min.ensures;
+      out_after = listed_buffer _ _ e _ _ (c.list_both-found.ensures.out_after ∙ ap (puts c.args.out.now 0) b);
+    }

@@ -1,14 +1,9 @@
+use Rattle.new_stream.specs.Entries.{entries_of}
+use Rattle.new_places.specs.Left.{left}
 use Rattle.copied_records.specs.Copied.{copied_entry}
 use Rattle.copied_records.proofs.Editing.{Editing}
 use Rattle.copied_records.proofs.Kept.{Lies}
-use Prim.Native.Nat.{◌-◌}
-use lib.ListN.{length}
 use Rattle.copied_records.proofs.copy_kept.Given as goal
 
-abbrev pub invariant-loop-size : goal.invariant-loop-size
-invariant-loop-size l =
-    Editing l.s (Lies l.s) (copied_entry l.s) l.table l.initial.out l.w l.q l.out
-
-abbrev pub decreases-loop-size : goal.decreases-loop-size
-decreases-loop-size l =
-    length l.s - l.w.at
+abbrev pub invariant-loop-x : goal.invariant-loop-x
+invariant-loop-x l = Editing (Lies l.s) (copied_entry l.s) l.table (entries_of l.s) l.initial.out (left l.x-iterator) l.place l.out

@@ -1,24 +1,8 @@
-use Rattle.flags.proofs.Laws.{rank_at_laws}
-use borrow.Author.Rules.{rules}
+use Rattle.std.proofs.Common.{◌/◌, arith}
+use Rattle.flags.proofs.Laws.{set_most, set_masked}
 use Rattle.flags.proofs.rank_at.Goals as goal
 
-pub offset_bounds-ranks-j : goal.offset_bounds-ranks-j
-offset_bounds-ranks-j c = search (rank_at_laws, rules)
-
-pub bounds-ranks-j : goal.bounds-ranks-j
-bounds-ranks-j c = search (rank_at_laws, rules)
-
-pub offset_bounds-flags-j : goal.offset_bounds-flags-j
-offset_bounds-flags-j c = search (rank_at_laws, rules)
-
-pub bounds-flags-j : goal.bounds-flags-j
-bounds-flags-j c = search (rank_at_laws, rules)
-
-pub ones_below-requires : goal.ones_below-requires
-ones_below-requires c = search (rank_at_laws, rules)
-
 pub overflow_add-result : goal.overflow_add-result
-overflow_add-result c = search (rank_at_laws, rules)
-
-pub returns : goal.returns
-returns c = search (rank_at_laws, rules)
+overflow_add-result c =
+    let rank = c.requires.0.at (c.args.i / 64) c.requires.1 in
+    omega (arith, set_masked c.args.flags.now c.args.i, set_most c.args.flags.now c.args.i)

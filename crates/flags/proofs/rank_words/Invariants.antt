@@ -1,11 +1,7 @@
-use Prim.Native.Nat.{◌-◌}
-use Rattle.flags.proofs.Laws.{Ranking}
+use Rattle.std.proofs.Common.{◌≡◌, ℕ, ◌+◌, ◌*◌, ◌<◌, get_or}
+use Rattle.flags.specs.Flags.{set_below}
 use Rattle.flags.proofs.rank_words.Given as goal
 
 abbrev pub invariant-loop-j : goal.invariant-loop-j
 invariant-loop-j l =
-    Ranking l.flags l.start l.n l.ranks l.r l.j
-
-abbrev pub decreases-loop-j : goal.decreases-loop-j
-decreases-loop-j l =
-    l.n - l.j
+    (l.r ≡ l.start + set_below l.flags (l.j * 64)) × ((k : ℕ) → k < l.j → get_or l.ranks k 0 ≡ l.start + set_below l.flags (k * 64))

@@ -1,18 +1,5 @@
-use Rattle.formula.proofs.Judged.{on_answer}
-use Rattle.formula.proofs.OneToken.{start_within}
+use Rattle.formula.proofs.Judged.{judged}
 use Rattle.formula.proofs.judge.Goals as goal
 
-pub visit_formula-seen-requires-clause-b_bound : goal.visit_formula-seen-requires-clause-b_bound
-visit_formula-seen-requires-clause-b_bound c = search on_answer
-
-pub visit_formula-seen-requires-clause-seen_within : goal.visit_formula-seen-requires-clause-seen_within
-visit_formula-seen-requires-clause-seen_within c = search start_within
-
-pub verdict-requires-clause-end_bound : goal.verdict-requires-clause-end_bound
-verdict-requires-clause-end_bound c = search on_answer
-
-pub returns-in-Accepted : goal.returns-in-Accepted
-returns-in-Accepted c = search on_answer
-
-pub returns-in-Refused : goal.returns-in-Refused
-returns-in-Refused c = search on_answer
+pub returns-in-Ok : goal.returns-in-Ok
+returns-in-Ok c = judged c.args.tokens.now c.args.trailing.now c.judge_tokens.result c.judge_tokens.ensures c.in_ok-judge_tokens.field-0 c.in_ok-judge_tokens.was c.visit_formula.result c.visit_formula.ensures c.in-Ok.seen c.verdict.result c.in-Ok.is c.verdict.ensures

@@ -1,10 +1,6 @@
-use Rattle.journal.proofs.Entries.{Fitting}
+use Rattle.std.proofs.Common.{◌≡◌, ◌-◌}
+use Rattle.journal.specs.Entries.{entry_at, entries_fit}
 use Rattle.journal.proofs.entries_fit.Given as goal
 
-abbrev pub invariant-loop-left : goal.invariant-loop-left
-invariant-loop-left l =
-    Fitting l.j l.count l.at l.left
-
-abbrev pub decreases-loop-left : goal.decreases-loop-left
-decreases-loop-left l =
-    l.left
+abbrev pub invariant-loop-i : goal.invariant-loop-i
+invariant-loop-i l = entries_fit l.j (entry_at l.i) (l.count - l.i) ≡ entries_fit l.j 16 l.count

@@ -1,36 +1,16 @@
-use borrow.Author.Rules.{rules}
-use Rattle.listing.proofs.Laws.{sought_laws}
+use Rattle.std.proofs.Common.{◌∙◌}
+use Rattle.std.proofs.lemmas.Iterator.Consumers.{YieldsList-from_first, nth_from_yields_List}
+use Rattle.globals.specs.Sheets.{declared, sheets_of}
+use Rattle.globals.specs.Left.{left}
+use Rattle.listing.proofs.Laws.{sought_none, sought_some, sought_room}
 use Rattle.listing.proofs.find_sheet.Goals as goal
 
-pub loop-header-init : goal.loop-header-init
-loop-header-init c = search (sought_laws, rules)
+pub returns-in_err-sheet-clause-value : goal.returns-in_err-sheet-clause-value
+returns-in_err-sheet-clause-value c =
+    let got = nth_from_yields_List c.nth.result c.nth.new.self c.args.n c.nth.ensures.ran (YieldsList-from_first declared left (sheets_of c.args.s.now) c.of.ensures) in
+    c.from_residual.ensures ∙ sought_none _ _ _ got c.in_err-sheet.was
 
-pub boundsheet_at-requires : goal.boundsheet_at-requires
-boundsheet_at-requires c = search (sought_laws, rules)
-
-pub returns-then-left-eq0-clause-value : goal.returns-then-left-eq0-clause-value
-returns-then-left-eq0-clause-value c = search (sought_laws, rules)
-
-pub returns-then-left-eq0-clause-sought_within : goal.returns-then-left-eq0-clause-sought_within
-returns-then-left-eq0-clause-sought_within c = search (sought_laws, rules)
-
-pub overflow_sub-left : goal.overflow_sub-left
-overflow_sub-left c = search (sought_laws, rules)
-
-pub loop-header-smaller-in-Sheet : goal.loop-header-smaller-in-Sheet
-loop-header-smaller-in-Sheet c = search (sought_laws, rules)
-
-pub loop-header-preserved-in-Sheet : goal.loop-header-preserved-in-Sheet
-loop-header-preserved-in-Sheet c = search (sought_laws, rules)
-
-pub loop-header-smaller : goal.loop-header-smaller
-loop-header-smaller c = search (sought_laws, rules)
-
-pub loop-header-preserved : goal.loop-header-preserved
-loop-header-preserved c = search (sought_laws, rules)
-
-pub returns-in-Done-clause-value : goal.returns-in-Done-clause-value
-returns-in-Done-clause-value c = search (sought_laws, rules)
-
-pub returns-in-Done-clause-sought_within : goal.returns-in-Done-clause-sought_within
-returns-in-Done-clause-sought_within c = search (sought_laws, rules)
+pub returns : goal.returns
+returns c =
+    let got = nth_from_yields_List c.nth.result c.nth.new.self c.args.n c.nth.ensures.ran (YieldsList-from_first declared left (sheets_of c.args.s.now) c.of.ensures) in
+    record { value = sought_some _ _ _ got _ c.in_ok-sheet.was; sought_within = sought_room _ _ _ got _ c.in_ok-sheet.was }

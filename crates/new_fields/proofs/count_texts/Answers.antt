@@ -1,33 +1,16 @@
-use Rattle.new_fields.proofs.Indices.{census_laws}
-use borrow.Author.Rules.{rules}
+use Rattle.std.proofs.Common.{ap, ◌∙◌}
+use Rattle.new_places.specs.Left.{left}
+use Rattle.new_fields.proofs.Indices.{counting_start, count_total, count_top, count_text, count_other}
 use Rattle.new_fields.proofs.count_texts.Goals as goal
 
-pub loop-fate-init : goal.loop-fate-init
-loop-fate-init c = search (census_laws, rules)
+pub loop-x-init : goal.loop-x-init
+loop-x-init c = counting_start _ _ c.requires (ap left c.into_iter-x-iterator.ensures.into_iter_gives ∙ c.of-x-items.ensures)
 
-pub step_at-requires : goal.step_at-requires
-step_at-requires c = search (census_laws, rules)
+pub loop-x-preserved-in-Some-text_index : goal.loop-x-preserved-in-Some-text_index
+loop-x-preserved-in-Some-text_index c = count_text c.loop-x.invariant _ _ c.in-Some.ensures.steps c.text_index.ensures _ _ c.in-Some-text_index.is c.max-top.ensures
 
-pub enum_known-fate : goal.enum_known-fate
-enum_known-fate c = search (census_laws, rules)
+pub loop-x-preserved : goal.loop-x-preserved
+loop-x-preserved c = count_other c.loop-x.invariant _ _ c.in-Some.ensures.steps c.text_index.ensures c.in_default.is
 
-pub census_entry-c-requires : goal.census_entry-c-requires
-census_entry-c-requires c = search (census_laws, rules)
-
-pub loop-fate-smaller : goal.loop-fate-smaller
-loop-fate-smaller c = search (census_laws, rules)
-
-pub loop-fate-preserved : goal.loop-fate-preserved
-loop-fate-preserved c = search (census_laws, rules)
-
-pub enum_told-1 : goal.enum_told-1
-enum_told-1 c = search (census_laws, rules)
-
-pub returns-in-Rest : goal.returns-in-Rest
-returns-in-Rest c = (search (census_laws, rules), search (census_laws, rules))
-
-pub enum_told-in-End : goal.enum_told-in-End
-enum_told-in-End c = search (census_laws, rules)
-
-pub returns-in-End : goal.returns-in-End
-returns-in-End c = (search (census_laws, rules), search (census_laws, rules))
+pub returns : goal.returns
+returns c = (count_total c.loop-x.invariant c.in-None.ensures.steps.0, count_top c.loop-x.invariant c.in-None.ensures.steps.0)

@@ -1,45 +1,14 @@
-use Rattle.new_fields.proofs.Laws.{place_laws, texts_start}
-use borrow.Author.Rules.{rules}
+use Rattle.std.proofs.Common.{ap, ◌∙◌}
+use Rattle.new_places.specs.Left.{left}
+use Rattle.copied_records.proofs.Editing.{editing_next, editing_end}
+use Rattle.new_fields.proofs.Laws.{texts_start}
 use Rattle.new_fields.proofs.put_indices.Goals as goal
 
-pub loop-size-init : goal.loop-size-init
-loop-size-init c = search texts_start
+pub loop-x-init : goal.loop-x-init
+loop-x-init c = texts_start _ _ _ _ _ _ _ (ap left c.into_iter-x-iterator.ensures.into_iter_gives ∙ c.of-x-items.ensures) c.requires
 
-pub step_at-requires : goal.step_at-requires
-step_at-requires c = search (place_laws, rules)
+pub loop-x-preserved : goal.loop-x-preserved
+loop-x-preserved c = editing_next c.loop-x.invariant _ _ c.in-Some.ensures.steps _ _ c.new_size-place.ensures c.put_index.ensures
 
-pub enum_known-size : goal.enum_known-size
-enum_known-size c = search (place_laws, rules)
-
-pub index_entry-requires : goal.index_entry-requires
-index_entry-requires c = (search (place_laws, rules), λ e. search (place_laws, rules), search rules, search rules, search rules)
-
-pub size_of-q-requires : goal.size_of-q-requires
-size_of-q-requires c = search (place_laws, rules)
-
-pub overflow_add-q : goal.overflow_add-q
-overflow_add-q c = search (place_laws, rules)
-
-pub loop-size-smaller : goal.loop-size-smaller
-loop-size-smaller c = search (place_laws, rules)
-
-pub loop-size-preserved : goal.loop-size-preserved
-loop-size-preserved c = search (place_laws, rules)
-
-pub enum_told-1 : goal.enum_told-1
-enum_told-1 c = search (place_laws, rules)
-
-pub shape_of-out-in-Rest : goal.shape_of-out-in-Rest
-shape_of-out-in-Rest c = search (place_laws, rules)
-
-pub returns-in-Rest : goal.returns-in-Rest
-returns-in-Rest c = search (place_laws, rules)
-
-pub enum_told-in-End : goal.enum_told-in-End
-enum_told-in-End c = search (place_laws, rules)
-
-pub shape_of-out-in-End : goal.shape_of-out-in-End
-shape_of-out-in-End c = search (place_laws, rules)
-
-pub returns-in-End : goal.returns-in-End
-returns-in-End c = search (place_laws, rules)
+pub returns : goal.returns
+returns c = editing_end c.loop-x.invariant c.in-None.ensures.steps.0

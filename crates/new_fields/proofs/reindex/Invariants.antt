@@ -1,5 +1,5 @@
+use Rattle.std.proofs.Common.{◌-◌}
 use Rattle.new_fields.proofs.Indices.{Reindexing}
-use Prim.Native.Nat.{◌-◌}
 use Rattle.new_fields.proofs.reindex.Given as goal
 
 abbrev pub invariant-loop-base : goal.invariant-loop-base

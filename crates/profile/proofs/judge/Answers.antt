@@ -1,48 +1,20 @@
-use borrow.Author.Rules.{rules}
-use Rattle.profile.proofs.Laws.{judge_laws}
+use Rattle.std.proofs.Common.{◌≡◌, sym, ap, ◌∙◌, Err}
+use Rattle.std.proofs.lemmas.Result.{err_from_is_err_and}
+use Rattle.profile.specs.Placed.{placed_from}
+use Rattle.profile.specs.declared.PlacedCells.{PlacedCells}
+use Rattle.profile.specs.Left.{left}
+use Rattle.profile.specs.Parts.{count_of}
+use Rattle.profile.specs.Profile.{judged_from}
+use Rattle.profile.proofs.Laws.{ok_or_wrong, judged_wrong}
 use Rattle.profile.proofs.judge.Goals as goal
 
-pub loop-at-init : goal.loop-at-init
-loop-at-init c = search (judge_laws, rules)
-
-pub next_with_record-requires : goal.next_with_record-requires
-next_with_record-requires c = search (judge_laws, rules)
-
-pub enum_known-at : goal.enum_known-at
-enum_known-at c = search (judge_laws, rules)
-
-pub amount_at-requires : goal.amount_at-requires
-amount_at-requires c = search (judge_laws, rules)
-
-pub enum_known-n : goal.enum_known-n
-enum_known-n c = search (judge_laws, rules)
-
-pub column_of-requires : goal.column_of-requires
-column_of-requires c = search (judge_laws, rules)
-
-pub seconds_after-seconds-requires : goal.seconds_after-seconds-requires
-seconds_after-seconds-requires c = search (judge_laws, rules)
-
-pub overflow_add-i : goal.overflow_add-i
-overflow_add-i c = search (judge_laws, rules)
-
-pub loop-at-smaller : goal.loop-at-smaller
-loop-at-smaller c = search (judge_laws, rules)
-
-pub loop-at-preserved : goal.loop-at-preserved
-loop-at-preserved c = search (judge_laws, rules)
-
-pub enum_told-1 : goal.enum_told-1
-enum_told-1 c = search (judge_laws, rules)
-
-pub returns-in-Unfit : goal.returns-in-Unfit
-returns-in-Unfit c = search (judge_laws, rules)
-
-pub enum_told-in-End : goal.enum_told-in-End
-enum_told-in-End c = search (judge_laws, rules)
-
-pub ended-requires : goal.ended-requires
-ended-requires c = search (judge_laws, rules)
-
-pub returns-in-End : goal.returns-in-End
-returns-in-End c = search (judge_laws, rules)
+pub returns-in_err-n : goal.returns-in_err-n
+returns-in_err-n c =
+    let w = ok_or_wrong c.amount_at.result c.outside.result _ (sym c.ok_or.ensures.value ∙ c.in_err-n.was) in
+    let e = judged_wrong _ _ _ _ c.in-Some.placed _ c.in-Some.ensures.steps c.amount_at.ensures.value w.0 in
+    let g : judged_from (count_of c.args.columns) 0 0 (left c.into_iter-placed-iterator.result) ≡ judged_from (count_of c.args.columns) 0 0 (placed_from c.args.s.now c.args.from) =
+    ap (λ (y : PlacedCells). judged_from (count_of c.args.columns) 0 0 (left y)) c.into_iter-placed-iterator.ensures.into_iter_gives in
+    let i : judged_from (count_of c.args.columns) 0 0 (left c.into_iter-placed-iterator.result) ≡ judged_from (count_of c.args.columns) c.loop-placed.i c.loop-placed.seconds (left c.loop-placed.placed-iterator) = c.loop-placed.invariant in
+    let h : Err c.in_err-n.field-0.0 ≡ judged_from (count_of c.args.columns) 0 0 (placed_from c.args.s.now c.args.from) = cc (w.1, e, g, i, c.outside.ensures) in
+    let p = err_from_is_err_and c.from_residual.result c.from_residual.ensures.1 in
+    cc (p.1, p.2, h)

@@ -1,11 +1,9 @@
-use Rattle.reading.specs.Cells.{remaining}
-use Rattle.profile.proofs.Laws.{JudgedTo}
+use Rattle.std.proofs.Common.{◌≡◌}
+use Rattle.profile.specs.Left.{left}
+use Rattle.profile.specs.Parts.{count_of}
+use Rattle.profile.specs.Profile.{judged_from}
 use Rattle.profile.proofs.judge.Given as goal
 
-abbrev pub invariant-loop-at : goal.invariant-loop-at
-invariant-loop-at l =
-    JudgedTo l.s l.columns l.initial.v l.v l.i l.seconds
-
-abbrev pub decreases-loop-at : goal.decreases-loop-at
-decreases-loop-at l =
-    remaining l.s l.v
+abbrev pub invariant-loop-placed : goal.invariant-loop-placed
+invariant-loop-placed l =
+    judged_from (count_of l.columns) 0 0 (left l.initial.placed-iterator) ≡ judged_from (count_of l.columns) l.i l.seconds (left l.placed-iterator)

@@ -1,13 +1,9 @@
+use Rattle.std.proofs.Common.{◌≡◌, ◌-◌, length}
 use Rattle.reading.specs.Scan.{Past}
-use mathlib.Core.Path.{◌≡◌}
-use lib.ListN.{length}
-use Prim.Native.Nat.{◌-◌}
 use Rattle.reading.proofs.past_others.Given as goal
 
 abbrev pub invariant-loop-kind : goal.invariant-loop-kind
-invariant-loop-kind l =
-    (l.level ≡ 0) × Past l.s l.level l.from l.at
+invariant-loop-kind l = (l.level ≡ 0) × Past l.s l.level l.from l.at
 
 abbrev pub decreases-loop-kind : goal.decreases-loop-kind
-decreases-loop-kind l =
-    length l.s - l.at
+decreases-loop-kind l = length l.s - l.at

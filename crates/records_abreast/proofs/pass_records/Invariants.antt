@@ -4,10 +4,10 @@ use lib.ListN.{length}
 use Prim.Native.Nat.{◌+◌, ◌-◌}
 use Rattle.records_abreast.proofs.pass_records.Given as goal
 
-abbrev pub invariant-loop-c : goal.invariant-loop-c
-invariant-loop-c l =
+abbrev pub invariant-loop-size : goal.invariant-loop-size
+invariant-loop-size l =
     Ahead l.s l.t l.common (listed_from l.s (place_at l.a 0)) (listed_from l.t (place_at l.b 0)) (listed_from l.s (place_at l.x 0)) (listed_from l.t (place_at l.y 0))
 
-abbrev pub decreases-loop-c : goal.decreases-loop-c
-decreases-loop-c l =
+abbrev pub decreases-loop-size : goal.decreases-loop-size
+decreases-loop-size l =
     (length l.s - l.x) + (length l.t - l.y)

@@ -1,26 +1,9 @@
-use Rattle.replay.proofs.Running.{replay_laws, whole_room, at_4}
-use Rattle.journal.proofs.Entries.{fits_long}
-use Rattle.replay.proofs.Laws.{formed_by, some_long}
-use borrow.Author.Rules.{rules}
+use Rattle.replay.proofs.Running.{whole_room}
+use Rattle.replay.proofs.Laws.{formed_by}
 use Rattle.replay.proofs.replay_in.Goals as goal
 
-pub first_byte-requires : goal.first_byte-requires
-first_byte-requires c = search (some_long, fits_long, rules)
+pub invariant_of-entries : goal.invariant_of-entries
+invariant_of-entries c = record { whole = whole_room c.args.j.now _ _ c.journal_fits.result c.journal_fits.ensures c.if-not-journal_fits.false c.u32_at.result c.u32_at.ensures }
 
-pub u32_at-count-requires : goal.u32_at-count-requires
-u32_at-count-requires c = search (at_4, fits_long, rules)
-
-pub run_batches-r-requires : goal.run_batches-r-requires
-run_batches-r-requires c = (search (whole_room, rules), search rules, search rules, search (formed_by, rules))
-
-pub returns-then-journal_fits-clause-value : goal.returns-then-journal_fits-clause-value
-returns-then-journal_fits-clause-value c = search (replay_laws, rules)
-
-pub returns-then-journal_fits-clause-s_after : goal.returns-then-journal_fits-clause-s_after
-returns-then-journal_fits-clause-s_after c = search (replay_laws, rules)
-
-pub returns-clause-value : goal.returns-clause-value
-returns-clause-value c = search (replay_laws, rules)
-
-pub returns-clause-s_after : goal.returns-clause-s_after
-returns-clause-s_after c = search (replay_laws, rules)
+pub run-requires : goal.run-requires
+run-requires c = (c.requires, formed_by c.args.j.now _ _ c.journal_fits.ensures c.if-not-journal_fits.false (λ i. (c.type_inv.j i).fits) c.u32_at.ensures)

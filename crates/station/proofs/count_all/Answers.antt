@@ -1,24 +1,17 @@
-use borrow.Author.Rules.{rules}
-use Rattle.station.proofs.Laws.{all_laws, all_fit}
+use Rattle.station.proofs.Laws.{all_start, all_more, all_fit, all_done, sheet_less}
 use Rattle.station.proofs.count_all.Goals as goal
 
-pub loop-cells-init : goal.loop-cells-init
-loop-cells-init c = search (all_laws, rules)
-
-pub next_sheet-requires : goal.next_sheet-requires
-next_sheet-requires c = search (all_laws, rules)
-
-pub count_cells-n-requires : goal.count_cells-n-requires
-count_cells-n-requires c = search (all_laws, rules)
+pub loop-sheet-init : goal.loop-sheet-init
+loop-sheet-init c = all_start _ _
 
 pub overflow_add-n : goal.overflow_add-n
-overflow_add-n c = record { fits = search (all_fit, rules) }
+overflow_add-n c = record { fits = all_fit c.loop-sheet.invariant c.next_sheet.ensures _ c.in-Some.is _ c.count_cells-n.ensures c.requires }
 
-pub loop-cells-smaller : goal.loop-cells-smaller
-loop-cells-smaller c = search (all_laws, rules)
+pub loop-sheet-smaller : goal.loop-sheet-smaller
+loop-sheet-smaller c = sheet_less _ _ c.next_sheet.ensures _ c.in-Some.is
 
-pub loop-cells-preserved : goal.loop-cells-preserved
-loop-cells-preserved c = search (all_laws, rules)
+pub loop-sheet-preserved : goal.loop-sheet-preserved
+loop-sheet-preserved c = all_more c.loop-sheet.invariant c.next_sheet.ensures _ c.in-Some.is _ c.count_cells-n.ensures
 
-pub returns-in-End : goal.returns-in-End
-returns-in-End c = search (all_laws, rules)
+pub returns : goal.returns
+returns c = all_done c.loop-sheet.invariant c.next_sheet.ensures c.in_default.is

@@ -1,12 +1,9 @@
-use Prim.Native.Nat.{◌-◌}
-use lib.ListN.{length}
+use Rattle.std.proofs.Common.{◌-◌, length}
 use Rattle.station.proofs.Laws.{AllCounted}
 use Rattle.station.proofs.count_all.Given as goal
 
-abbrev pub invariant-loop-cells : goal.invariant-loop-cells
-invariant-loop-cells l =
-    AllCounted l.s l.initial.p l.n l.p
+abbrev pub invariant-loop-sheet : goal.invariant-loop-sheet
+invariant-loop-sheet l = AllCounted l.s l.initial.place l.n l.place
 
-abbrev pub decreases-loop-cells : goal.decreases-loop-cells
-decreases-loop-cells l =
-    length l.s - l.p
+abbrev pub decreases-loop-sheet : goal.decreases-loop-sheet
+decreases-loop-sheet l = length l.s - l.place

@@ -2,10 +2,8 @@ use Rattle.reading.specs.Cells.{remaining}
 use Rattle.station.proofs.Laws.{CellsCounted}
 use Rattle.station.proofs.count_cells.Given as goal
 
-abbrev pub invariant-loop-next : goal.invariant-loop-next
-invariant-loop-next l =
-    CellsCounted l.s l.initial.v l.n l.v
+abbrev pub invariant-loop-listed : goal.invariant-loop-listed
+invariant-loop-listed l = CellsCounted l.s l.initial.place l.n l.place
 
-abbrev pub decreases-loop-next : goal.decreases-loop-next
-decreases-loop-next l =
-    remaining l.s l.v
+abbrev pub decreases-loop-listed : goal.decreases-loop-listed
+decreases-loop-listed l = remaining l.s l.place

@@ -1,24 +1,19 @@
-use Rattle.string_places.proofs.Laws.{put_laws}
-use borrow.Author.Rules.{rules}
+use Rattle.std.proofs.Common.{arith}
+use Rattle.strings.proofs.Laws.{place_inside}
+use Rattle.string_places.proofs.Laws.{at_small, seg_small}
 use Rattle.string_places.proofs.put_next.Goals as goal
 
-pub narrow-requires : goal.narrow-requires
-narrow-requires c = search (put_laws, rules)
+pub overflow_cast-e : goal.overflow_cast-e
+overflow_cast-e c =
+    let at = at_small _ _ _ _ c.next_place.ensures c.in_ok-e.was c.requires.0 c.requires.2 in
+    let seg = seg_small _ _ _ _ c.next_place.ensures c.in_ok-e.was c.requires.0 c.requires.2 c.requires.1 in
+    record { fits = omega (arith, at, seg) }
 
-pub narrow-requires-in-To : goal.narrow-requires-in-To
-narrow-requires-in-To c = search (put_laws, rules)
+pub overflow_cast-e-2 : goal.overflow_cast-e-2
+overflow_cast-e-2 c =
+    let at = at_small _ _ _ _ c.next_place.ensures c.in_ok-e.was c.requires.0 c.requires.2 in
+    let seg = seg_small _ _ _ _ c.next_place.ensures c.in_ok-e.was c.requires.0 c.requires.2 c.requires.1 in
+    record { fits = omega (arith, at, seg) }
 
 pub skip_string-requires : goal.skip_string-requires
-skip_string-requires c = search (put_laws, rules)
-
-pub returns-in-Refused-clause-result_value : goal.returns-in-Refused-clause-result_value
-returns-in-Refused-clause-result_value c = search (put_laws, rules)
-
-pub returns-in-Refused-clause-table_after : goal.returns-in-Refused-clause-table_after
-returns-in-Refused-clause-table_after c = search (put_laws, rules)
-
-pub returns-in-To-clause-result_value : goal.returns-in-To-clause-result_value
-returns-in-To-clause-result_value c = search (put_laws, rules)
-
-pub returns-in-To-clause-table_after : goal.returns-in-To-clause-table_after
-returns-in-To-clause-table_after c = search (put_laws, rules)
+skip_string-requires c = place_inside _ _ _ _ c.next_place.ensures c.in_ok-e.was c.requires.0

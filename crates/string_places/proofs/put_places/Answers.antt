@@ -1,19 +1,18 @@
-use Rattle.string_places.proofs.Laws.{places_laws, next_not}
+use Prim.Native.Nat.{◌+◌, ◌-◌, ◌*◌}
+use mathlib.Core.Path.{◌≡◌}
+use native.Mathlib.Omega.{arith}
 use borrow.Author.Rules.{rules}
-use mathlib.Core.Path.{refl}
+use Rattle.string_places.proofs.Laws.{next_ok, places_end, places_laws}
 use Rattle.string_places.proofs.put_places.Goals as goal
 
-pub loop-left-init : goal.loop-left-init
-loop-left-init c = (search rules, search rules, search rules, refl, search rules, refl)
+pub unwrap-d-requires : goal.unwrap-d-requires
+unwrap-d-requires c = search (next_ok, rules)
 
-pub put_next-requires : goal.put_next-requires
-put_next-requires c = (search rules, search rules, search rules, search rules)
-
-pub returns-in-Refused : goal.returns-in-Refused
-returns-in-Refused c = absurd (search next_not)
-
-pub loop-left-preserved : goal.loop-left-preserved
-loop-left-preserved c = (search places_laws, search places_laws, search places_laws, search places_laws, search places_laws, search places_laws)
+pub loop-i-preserved : goal.loop-i-preserved
+loop-i-preserved c =
+    let left : c.args.n - c.loop-i.i ≡ c.args.n - (c.loop-i.i + 1) + 1 = omega arith in
+    let on : 2 * (c.loop-i.i + 1) ≡ 2 * c.loop-i.i + 2 = omega arith in
+    search (places_laws, rules)
 
 pub returns : goal.returns
-returns c = search places_laws
+returns c = places_end _ _ _ _ _ _ c.loop-i.invariant.4 (omega arith)

@@ -1,12 +1,6 @@
-use Rattle.strings.proofs.Laws.{string_laws, inside_laws}
+use Rattle.strings.proofs.Laws.{inside_laws}
 use borrow.Author.Rules.{rules}
 use Rattle.strings.proofs.skip_rest.Goals as goal
 
-pub skip_items-requires-in-To : goal.skip_items-requires-in-To
-skip_items-requires-in-To c = (search inside_laws, search rules)
-
-pub returns-in-Refused : goal.returns-in-Refused
-returns-in-Refused c = search string_laws
-
-pub returns-in-To : goal.returns-in-To
-returns-in-To c = search string_laws
+pub skip_items-requires-2 : goal.skip_items-requires-2
+skip_items-requires-2 c = search (inside_laws, rules, c.in_ok-d.was)

@@ -1,11 +1,6 @@
 use Rattle.table_chunks.proofs.Laws.{Tallied}
-use Prim.Native.Nat.{◌-◌}
 use Rattle.table_chunks.proofs.count_set.Given as goal
 
 abbrev pub invariant-loop-i : goal.invariant-loop-i
 invariant-loop-i l =
     Tallied l.flags l.n l.i l.r
-
-abbrev pub decreases-loop-i : goal.decreases-loop-i
-decreases-loop-i l =
-    l.n - l.i

@@ -6,7 +6,7 @@ use Rattle.table_chunks.proofs.size_all.Given as goal
 
 abbrev pub invariant-loop-base : goal.invariant-loop-base
 invariant-loop-base l =
-    Ahead l.s l.unique l.base l.d × Sizing l.s l.unique l.initial.d l.base l.count l.d l.g × (length l.flags ≡ length l.initial.flags)
+    Ahead l.stream l.unique l.base l.place × Sizing l.stream l.unique l.initial.place l.base l.count l.place l.span × (length l.flags ≡ length l.initial.flags)
 
 abbrev pub decreases-loop-base : goal.decreases-loop-base
 decreases-loop-base l =

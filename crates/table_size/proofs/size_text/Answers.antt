@@ -1,15 +1,13 @@
+use native.Mathlib.Omega.{arith}
+use borrow.Author.Rules.{rules}
 use Rattle.table_size.proofs.Counting.{text_laws}
-use Rattle.table_writer.proofs.Whole.{text_refused}
 use Rattle.table_size.proofs.size_text.Goals as goal
 
-pub bounds-s-p : goal.bounds-s-p
-bounds-s-p c = search text_laws
+pub invariant_of-chars : goal.invariant_of-chars
+invariant_of-chars c = record { bytes = λ i. let b = c.type_inv.s i in omega arith; inside = search (text_laws, rules); some = search (text_laws, rules); small = search (text_laws, rules); passes = search (text_laws, rules) }
 
-pub size_chars-requires : goal.size_chars-requires
-size_chars-requires c = (search text_laws, search text_laws, search text_laws)
+pub bounds-s-d : goal.bounds-s-d
+bounds-s-d c = search (text_laws, rules)
 
-pub returns-in-Refused : goal.returns-in-Refused
-returns-in-Refused c = absurd (search text_refused)
-
-pub returns-in-Whole : goal.returns-in-Whole
-returns-in-Whole c = search text_laws
+pub returns : goal.returns
+returns c = search (text_laws, rules)

@@ -1,12 +1,16 @@
-use Rattle.table_writer.proofs.Stay.{plain_ends, plain_wrote, plain_room, plain_within, plain_low}
-use borrow.Author.Rules.{rules}
+use mathlib.Core.Path.{refl}
+use native.Mathlib.Omega.{arith}
+use Rattle.table_writer.proofs.Stay.{plain_room, plain_ends, plain_wrote}
 use Rattle.table_writer.proofs.put_items.Goals as goal
 
-pub put_bytes-requires : goal.put_bytes-requires
-put_bytes-requires c = (search (plain_within, rules), search (plain_low, rules), search (plain_room c.args.s.now c.shared_slice_known-1.given, rules))
+pub add_from-requires : goal.add_from-requires
+add_from-requires c =
+    let t = c.stays.ensures.0 c.if-stays.true in
+    let within = t.2 in
+    (omega arith, t.3, plain_room c.args.s.now c.type_inv.s c.args.flagged c.args.w c.args.v c.args.n c.args.c c.args.o.now.room t c.args.buf.now c.args.o.now refl c.requires.4)
 
-pub returns-then-plain-clause-from_value : goal.returns-then-plain-clause-from_value
-returns-then-plain-clause-from_value c = search (plain_ends c.args.s.now c.shared_slice_known-1.given, rules)
+pub returns-then-stays-clause-place_after : goal.returns-then-stays-clause-place_after
+returns-then-stays-clause-place_after c = plain_ends c.args.s.now c.type_inv.s c.args.flagged c.args.w c.args.v c.args.n c.args.c c.args.o.now.room (c.stays.ensures.0 c.if-stays.true) _ refl
 
-pub returns-then-plain-clause-out_after : goal.returns-then-plain-clause-out_after
-returns-then-plain-clause-out_after c = search (plain_wrote c.args.s.now c.shared_slice_known-1.given, rules)
+pub returns-then-stays-clause-out_after : goal.returns-then-stays-clause-out_after
+returns-then-stays-clause-out_after c = plain_wrote c.args.s.now c.type_inv.s c.args.flagged c.args.w c.args.v c.args.n c.args.c c.args.o.now.room (c.stays.ensures.0 c.if-stays.true) _ _ refl _ _ c.add_from.ensures

@@ -1,15 +1,10 @@
-use borrow.Author.Rules.{rules}
-use Rattle.top_level.proofs.Laws.{sum_laws}
+use Rattle.std.proofs.Common.{◌≡◌, sym, ◌∙◌, bit_or, rules}
+use Rattle.std.specs.List.{fold}
+use borrow.Author.Tests.{eqb-true}
+use Rattle.top_level.proofs.Laws.{or_none}
 use Rattle.top_level.proofs.none_left.Goals as goal
 
-pub loop-i-init : goal.loop-i-init
-loop-i-init c = search (sum_laws, rules)
-
-pub overflow_add-sum : goal.overflow_add-sum
-overflow_add-sum c = search (sum_laws, rules)
-
-pub loop-i-preserved : goal.loop-i-preserved
-loop-i-preserved c = search (sum_laws, rules)
-
 pub returns : goal.returns
-returns c = search (sum_laws, rules)
+returns c =
+    let all : c.fold.result ≡ fold bit_or 0 c.args.slots.now = search rules in
+    λ none j _. (or_none c.args.slots.now 0 (sym all ∙ eqb-true c.fold.result 0 none)).1 j

@@ -1,20 +1,20 @@
-use borrow.Author.Rules.{rules}
-use Rattle.top_level.proofs.Laws.{window_left, window_fault, window_named, window_free}
+use Rattle.std.proofs.Common.{arith}
+use Rattle.top_level.proofs.Laws.{window_fault, window_left, window_free, window_named}
 use Rattle.top_level.proofs.with_slots.Goals as goal
+
+pub returns-then-is_some : goal.returns-then-is_some
+returns-then-is_some c = window_fault _ _ _ _ _ _ _ c.fill-next.ensures _ c.pass-fault.ensures _ c.unwrap_or-end.ensures (grind arith)
 
 pub unnamed-requires : goal.unnamed-requires
 unnamed-requires c = (
-  c.requires.2,
-  c.fill-hi.ensures.1.within,
-  window_left _ _ _ _ _ _ _ c.fill-hi.ensures.1 _ c.pass.ensures (search rules),
-  c.fill-hi.ensures.1.named,
+  c.requires.1,
+  λ h e. (c.fill-next.ensures.far h e).1,
+  window_left _ _ _ _ _ _ _ c.fill-next.ensures _ c.pass-fault.ensures (grind arith),
+  c.fill-next.ensures.named,
 )
 
-pub returns-in-Disagree : goal.returns-in-Disagree
-returns-in-Disagree c = window_fault _ _ _ _ _ _ _ c.fill-hi.ensures.1 _ c.pass.ensures _ (search rules)
-
 pub returns-in-Named : goal.returns-in-Named
-returns-in-Named c = window_named _ _ _ _ _ _ _ c.fill-hi.ensures.1 _ c.pass.ensures (search rules) c.unnamed.result c.unnamed.ensures _ (search rules)
+returns-in-Named c = window_named _ _ _ _ _ _ _ c.fill-next.ensures _ c.pass-fault.ensures (grind arith) _ c.in-Named.ensures
 
 pub returns-in-Free : goal.returns-in-Free
-returns-in-Free c = window_free _ _ _ _ _ _ _ c.fill-hi.ensures.1 _ c.pass.ensures (search rules) c.unnamed.result c.unnamed.ensures _ (search rules)
+returns-in-Free c = window_free _ _ _ _ _ _ _ c.fill-next.ensures _ c.pass-fault.ensures (grind arith) _ c.unwrap_or-end.ensures _ c.in-Free.ensures

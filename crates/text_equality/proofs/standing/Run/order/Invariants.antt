@@ -1,0 +1,7 @@
+use Rattle.text_equality.specs.Characters.{units_of}
+use Rattle.text_equality.specs.Lists.{Alike}
+use Rattle.text_equality.proofs.standing.Run.order.Given as goal
+
+abbrev pub invariant-loop-i : goal.invariant-loop-i
+invariant-loop-i l =
+    Alike (units_of l.self) (units_of l.other) l.i
