@@ -33,7 +33,7 @@ fn find_first(s: &[u8], from: usize, row: u32, column: u32) -> Option<Spot>
     let mut at = from;
     let mut level: u8 = 0;
     // The record itself says where the next one starts: there is no index to count.
-    while let Some(scanned) = reading::scan(s, at, level) {
+    while let Some(scanned) = reading::scan_here(s, at, level) {
         match scanned {
             Scanned::Cells(cells) => {
                 if correction::row_has(cells.row, cells.first, cells.count, row, column) {

@@ -87,23 +87,23 @@ fn record_item(s: &[u8], v: Place, id: u16, size: usize, end: usize) -> Step
     requires { v.at + 4 + size ≤ length s.now }
     ensures { item_of result ≡ record_item s.now v id size end }
 {
-    if v.level != 0 {
-        return other_item(v, id, end);
+    if v.level == 0 {
+        if let Some(found) = cell::record_cell(s, v.at, id, size, v.part) {
+            let next = if found.left == 0 {
+                place_at(end, v.level)
+            } else {
+                Place {
+                    part: v.part + 1,
+                    ..v
+                }
+            };
+            return Step::Gives {
+                cell: found.cell,
+                next,
+            };
+        }
     }
-    match cell::record_cell(s, v.at, id, size, v.part) {
-        Some(Found { cell, left: 0 }) => Step::Gives {
-            cell,
-            next: place_at(end, v.level),
-        },
-        Some(Found { cell, .. }) => Step::Gives {
-            cell,
-            next: Place {
-                part: v.part + 1,
-                ..v
-            },
-        },
-        None => other_item(v, id, end),
-    }
+    other_item(v, id, end)
 }
 
 // One step from a place on: a cell, a record that is passed over, or the end.

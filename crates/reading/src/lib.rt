@@ -52,9 +52,10 @@ pub enum Scanned {
     Past(Place),
 }
 
-// The record at a place of a sheet's listing: none at its end.
+// The record at a place of a sheet's listing: none at its end. It is compiled into the loop that asks, which a call for each record would hold up.
+#[inline(always)]
 #[tactic(auto, using(record::proofs::Laws::body_within, crate::proofs::Scanning::first_room), unfolding(crate::specs::Scan::scan_of, crate::specs::Scan::record_scan, cell::specs::Cells::row_at, cell::specs::Cells::first_at, steps::specs::Choice::pick))]
-pub fn scan(s: &[u8], at: usize, level: u8) -> Option<Scanned>
+pub fn scan_here(s: &[u8], at: usize, level: u8) -> Option<Scanned>
     ensures { result ≡ scan_of s.now at level }
 {
     let Header::Record {
@@ -79,6 +80,13 @@ pub fn scan(s: &[u8], at: usize, level: u8) -> Option<Scanned>
         count,
         next: end,
     }))
+}
+
+// The same, by a call.
+pub fn scan(s: &[u8], at: usize, level: u8) -> Option<Scanned>
+    ensures { result ≡ scan_of s.now at level }
+{
+    scan_here(s, at, level)
 }
 
 // ---- past records without cells

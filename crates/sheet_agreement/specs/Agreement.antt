@@ -10,6 +10,10 @@ number_of Chart = 2
 number_of Macro = 3
 number_of Other = 4
 
+-- the kind of a number; one that is no sheet's is Other
+unfoldable pub kind_of : ℕ → SheetKind
+kind_of n = pick (eqb n 1) Worksheet (pick (eqb n 2) Chart (pick (eqb n 3) Macro Other))
+
 abbrev pub same_kind : SheetKind → SheetKind → Bool
 same_kind k l = eqb (number_of k) (number_of l)
 

@@ -3,7 +3,7 @@
 #![tactic(auto)]
 
 ghost use Rattle.std.specs.Prelude.{◌≡◌};
-ghost use Rattle.sheet_agreement.specs.Agreement.{number_of};
+ghost use Rattle.sheet_agreement.specs.Agreement.{number_of, kind_of};
 ghost use Rattle.sheet_agreement.specs.Slots.{inside, code_of, marks, sooner};
 
 // What a BOUNDSHEET or a BOF says that a sheet is.
@@ -24,6 +24,21 @@ impl SheetKind {
             SheetKind::Chart => 2,
             SheetKind::Macro => 3,
             SheetKind::Other => 4,
+        }
+    }
+}
+
+// Each number has a kind, so that whoever keeps a kind as its number may ask with it.
+#[tactic(auto, unfolding(crate::specs::Agreement::kind_of, steps::specs::Choice::pick))]
+impl From<u32> for SheetKind {
+    ghost from_gives = { λ n k. k ≡ kind_of n };
+
+    fn from(number: u32) -> SheetKind {
+        match number {
+            1 => SheetKind::Worksheet,
+            2 => SheetKind::Chart,
+            3 => SheetKind::Macro,
+            _ => SheetKind::Other,
         }
     }
 }

@@ -49,7 +49,7 @@ fn between(kind: u16) -> bool
 
 // Where the STRING of a formula that ends at `e` is looked for.
 #[tactic(auto, using(crate::proofs::Laws::record_within), unfolding(crate::specs::TextResult::string_place, steps::specs::Choice::pick))]
-fn string_place(s: &[u8], e: usize) -> usize
+pub fn string_place(s: &[u8], e: usize) -> usize
     requires { e ≤ length s.now }
     ensures { (result ≡ string_place s.now e) × (result ≤ length s.now) }
 {
@@ -61,7 +61,7 @@ fn string_place(s: &[u8], e: usize) -> usize
 
 // Whether a whole header of a STRING stands at `p`.
 #[tactic(auto, unfolding(crate::specs::TextResult::is_string, steps::specs::Choice::pick))]
-fn is_string(s: &[u8], p: usize) -> bool
+pub fn is_string(s: &[u8], p: usize) -> bool
     requires { p ≤ length s.now }
     ensures { result ≡ is_string s.now p }
 {
@@ -80,6 +80,7 @@ fn start_size(s: &[u8], p: usize) -> usize
     3 + segments::width_of(s[p + 2])
 }
 
+// Stream and cursor stay two parameters, as at `segments::Cursor`.
 // Past the string at c, segment by segment. Not inlined, so that whoever passes a string has the test for a plain one in it and no more.
 #[inline(never)]
 #[tactic(auto, using(crate::proofs::Laws::string_ends, crate::proofs::Local::start_size_low), unfolding(segments::specs::Segments::need, steps::specs::Choice::pick))]
@@ -102,10 +103,9 @@ fn skip_parts(s: &[u8], c: Cursor) -> Result<Cursor, Refusal>
     segments::ends_with_segments(s, 6, d)
 }
 
-// Stream and cursor stay two parameters, as at `segments::Cursor`.
 // Whether the string at c is a plain one, as most are: it ends where its segment ends, and no CONTINUE follows. Nothing is said of others.
 #[tactic(auto, using(crate::proofs::Laws::plain_there))]
-fn is_plain(s: &[u8], c: Cursor) -> bool
+pub fn is_plain(s: &[u8], c: Cursor) -> bool
     requires { Inside s.now c }
     ensures { IsTrue result → at_end c ≡ ends (string_at s.now c) }
 {

@@ -243,7 +243,8 @@ fn window_from(s: &[u8], unique: u32, from: usize, lo: usize) -> Window
     with_slots(s, unique, from, lo, &mut slots)
 }
 
-// A window after the other; of their faults the sooner.
+// A window after the other; of their faults the sooner. Not inlined: the slots would lie in the frame of whoever checks a stream, also where its sheets stand in order.
+#[inline(never)]
 #[tactic(auto, using(crate::proofs::Laws::going_laws))]
 fn by_slots(s: &[u8], unique: u32, from: usize) -> Option<usize>
     ensures { result ≡ agreement_of (sheets_of s.now) (bofs_from s.now unique from) }
