@@ -1,14 +1,11 @@
 -- Laws of little-endian numbers: put together, stored, and read in two streams that agree. Assumes nothing.
 use Prim.Native.Nat.{ℕ, zero, suc, ◌+◌, ◌-◌, ◌*◌, ◌/◌, ◌%◌, ◌^◌, ◌≤◌, ◌<◌}
 use mathlib.Core.Path.{◌≡◌, refl, sym, ap, ap₂, ◌∙◌}
-use mathlib.Core.List.{List, [], ◌∷◌, append_assoc}
+use mathlib.Core.List.{List, [], ◌∷◌}
 use mathlib.Core.Logic.{◌⊎◌, inl, inr}
 use native.Mathlib.Numerals.{add-one}
 use native.Mathlib.Omega.{arith}
-use lib.ListN.{length, get_or, set, length-set, take, drop, length-take, length-drop}
-use borrow.Rule.Slice.PartMut.{put_mid}
-use Rattle.std.proofs.lemmas.List.{drop-drop}
-use Rattle.std.proofs.lemmas.List.Edits.{sets-eq}
+use lib.ListN.{length, get_or, set, length-set, take, drop}
 use lib.Seq.{sets, drop-cons, get_or-set_same, get_or-set_other}
 use Rattle.byte_numbers.specs.Bytes.{num_at, bytes_at, bytes_of}
 
@@ -28,14 +25,19 @@ bytes_first s p n h z =
     let a : n ≡ suc (n - 1) = omega arith in
     ap₂ take a (drop-cons s p 0 h) ∙ ap (λ (k : ℕ). get_or s p 0 ∷ take (n - 1) (drop k s)) (sym (add-one p))
 
--- the n from p on put over those at `at`
-pub put_over : (s o v : List ℕ) (p n at : ℕ) → v ≡ take (p + n - p) (drop p s) → p + n ≤ length s → at + n ≤ length o → put_mid at (at + n - at) o v ≡ sets o at (bytes_at s p n)
+-- ---- bytes copied one after the other, i of n so far
+pub copy_step : (s o : List ℕ) (p at n i : ℕ) → i < n → p + n ≤ length s → sets o (at + i) (bytes_at s (p + i) (n - i)) ≡ sets (set o (at + i) (get_or s (p + i) 0)) (at + (i + 1)) (bytes_at s (p + (i + 1)) (n - (i + 1)))
+copy_step s o p at n i h f =
+    let from : p + i + 1 ≡ p + (i + 1) = omega arith in
+    let to : suc (at + i) ≡ at + (i + 1) = omega arith in
+    let left : n - i - 1 ≡ n - (i + 1) = omega arith in
+    ap (sets o (at + i)) (bytes_first s (p + i) (n - i) (omega arith) (omega arith))
+    ∙ ap (λ (k : ℕ). sets (set o (at + i) (get_or s (p + i) 0)) k (bytes_at s (p + i + 1) (n - i - 1))) to
+    ∙ ap₂ (λ (k l : ℕ). sets (set o (at + i) (get_or s (p + i) 0)) (at + (i + 1)) (bytes_at s k l)) from left
+
+pub copy_end : (s o : List ℕ) (p at n i : ℕ) → n ≤ i → sets o (at + i) (bytes_at s (p + i) (n - i)) ≡ o
 unfolding bytes_at
-put_over s o v p n at e f h =
-    let from : p + n - p ≡ n = omega arith in
-    let to : at + n - at ≡ n = omega arith in
-    let len : length (take n (drop p s)) ≡ n = simp (length-take, length-drop) (omega arith) in
-    rw (e, from, to, sets-eq (take n (drop p s)) o at (omega arith), len, drop-drop, append_assoc)
+copy_end s o p at n i h = let left : n - i ≡ 0 = omega arith in rw left
 
 -- ---- what is there after a store
 pub length_bytes : (w n : ℕ) → length (bytes_of w n) ≡ w
