@@ -18,7 +18,9 @@ use Rattle.new_stream.specs.declared.Entry.{Entry}
 use Rattle.new_stream.specs.Entries.{level_after, spot_after, record_item, rest_item, on_header, entry_item, entries_from}
 use Rattle.new_stream.proofs.Entries.{entries_step}
 use Rattle.new_places.specs.declared.Step.{Step}
+use Rattle.new_places.specs.Places.{place_for}
 use Rattle.new_places.specs.Parts.{item_of}
+use Rattle.new_places.proofs.Places.{place_none, place_here}
 
 -- ---- an entry goes ahead, and at most one level inside
 abbrev pub Ahead : List ℕ → Spot → Item Spot Entry → Type 0
@@ -47,6 +49,16 @@ module _ (s : List ℕ) (w : Spot) where
   pub ahead : Ahead s w (entry_item s w)
   unfolding entry_item
   ahead = ahead_header (header_at s w.at) refl
+
+-- nothing before p is left where the next entry isn't before it
+module _ (s : List ℕ) (w : Spot) (n p : ℕ) (h : p ≤ w.at) where
+  none_before : (x : Item Spot Entry) → Ahead s w x → place_for n (onto x (λ v. entries_from s v)) p ≡ 0
+  none_before (gives x v) a = place_here n _ x (entries_from s v) refl p (let e = a.1 in omega arith)
+  none_before (skips v) a = absurd a
+  none_before ends a = place_none n [] p refl
+
+  pub place_past : place_for n (entries_from s w) p ≡ 0
+  place_past = ap (λ (l : List Entry). place_for n l p) (entries_step s w) ∙ none_before (entry_item s w) (ahead s w)
 
 -- ---- an answer of the code
 module _ (s : List ℕ) (w : Spot) (r : Option Step) (is : item_of r ≡ entry_item s w) where

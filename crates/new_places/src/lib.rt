@@ -134,10 +134,9 @@ fn header_step(s: &[u8], w: Spot, id: u16, size: usize, end: usize) -> Option<St
     Some(record_step(s, w, id, size, end))
 }
 
-// Not inlined, so that a walk has the short step over a cell in it and no more.
-#[inline(never)]
+#[inline(always)]
 #[tactic(auto, using(crate::proofs::Laws::told, record::proofs::Laws::body_within), unfolding(new_stream::specs::Entries::entry_item))]
-fn any_step(s: &[u8], w: Spot) -> Option<Step>
+fn whole_step(s: &[u8], w: Spot) -> Option<Step>
     requires { w.level < 9223372036854775808 }
     ensures { item_of result ≡ entry_item s.now w }
 {
@@ -150,6 +149,15 @@ fn any_step(s: &[u8], w: Spot) -> Option<Step>
         Header::Cut => rest_step(s, w),
         Header::End => None,
     }
+}
+
+// Not inlined, so that a walk has the short step over a cell in it and no more.
+#[inline(never)]
+fn any_step(s: &[u8], w: Spot) -> Option<Step>
+    requires { w.level < 9223372036854775808 }
+    ensures { item_of result ≡ entry_item s.now w }
+{
+    whole_step(s, w)
 }
 
 // A record directly in a worksheet, of the types that most of its cells and rows have: between MULRK and RK, and no INDEX.
@@ -232,17 +240,20 @@ impl<'a> Entries<'a> {
     }
 
     // The new place of the offset p, which is not before the first of them, from the new place of the first, where the new table has so many bytes.
-    #[tactic(auto, using(crate::proofs::Places::entry_by_entry))]
+    #[tactic(auto, using(crate::proofs::Places::entry_by_entry, crate::proofs::Walking::left_none, crate::proofs::Walking::left_some, crate::proofs::Walking::step_ahead, crate::proofs::Walking::place_past))]
     pub fn new_place(self, p: usize, first: usize, table: usize) -> usize
         requires { first + sizes table (left self) < 18446744073709551616 }
         ensures { result ≡ first + place_for table (left self.entry) p }
     {
         let mut place = first;
-        for x in self {
-            if p <= x.at {
+        let mut spot = self.spot;
+        // Not by the iterator: whether a record comes before p is told before it is read, and each is read once, whatever it is.
+        while spot.at < p {
+            let Some(step) = whole_step(self.stream, spot) else {
                 break;
-            }
-            place += x.new_size(table);
+            };
+            place += step.entry.new_size(table);
+            spot = step.next;
         }
         place
     }
