@@ -222,7 +222,7 @@ impl<'a> Together<'a> {
 
     // The words of all sheets, from a key on, into an empty buffer.
     fn list(&self, up: bool, from: u64, out: &mut [u64]) -> usize
-        requires { When up (BothAscend self.now.tables.first.table.stream.now self.now.tables.second.table.stream.now) }
+        requires { When up (BothAscend self.now.tables.first.table.stream.now self.now.tables.second.table.stream.now) × (length self.now.tables.first.table.stream.now ≤ 16777216) × (length self.now.tables.second.table.stream.now ≤ 16777216) }
         ensures value { result ≡ put_to (length out.old) 0 (words_in self.now.tables.first.table self.now.tables.second.table from) }
         ensures out_after { out.new ≡ puts out.old 0 (words_in self.now.tables.first.table self.now.tables.second.table from) }
     {
@@ -279,7 +279,7 @@ fn list_marked<'a>(
     from: u64,
     out: &mut [u64],
 ) -> usize
-    requires { When up (BothAscend first.now.stream.now second.now.stream.now) × Common (strings_in first.now) (strings_in second.now) common }
+    requires { When up (BothAscend first.now.stream.now second.now.stream.now) × Common (strings_in first.now) (strings_in second.now) common × (length first.now.stream.now ≤ 16777216) × (length second.now.stream.now ≤ 16777216) }
     ensures value { result ≡ put_to (length out.old) 0 (words_in first.now second.now from) }
     ensures out_after { out.new ≡ puts out.old 0 (words_in first.now second.now from) }
 {
@@ -301,7 +301,7 @@ fn list_both<'a>(
     from: u64,
     out: &mut [u64],
 ) -> usize
-    requires { When up (AllAscend first.now.stream.now (sheets_of first.now.stream.now)) × When down (AllAscend second.now.stream.now (sheets_of second.now.stream.now)) }
+    requires { When up (AllAscend first.now.stream.now (sheets_of first.now.stream.now)) × When down (AllAscend second.now.stream.now (sheets_of second.now.stream.now)) × (length first.now.stream.now ≤ 16777216) × (length second.now.stream.now ≤ 16777216) }
     ensures value { result ≡ put_to (length out.old) 0 (words_in first.now second.now from) }
     ensures out_after { out.new ≡ puts out.old 0 (words_in first.now second.now from) }
 {
@@ -316,7 +316,8 @@ fn list_both<'a>(
 // The table of strings of a stream that passes the check.
 fn table_of(stream: &[u8], g: Globals) -> Table<'_>
     requires { checked_of stream.now 0 ≡ Right g }
-    ensures { (result.stream.now ≡ stream.now) × (result.place ≡ g.table) }
+    ensures table { (result.stream.now ≡ stream.now) × (result.place ≡ g.table) }
+    ensures small { length result.stream.now ≤ 16777216 }
 {
     Table {
         stream,

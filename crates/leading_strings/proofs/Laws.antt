@@ -91,8 +91,8 @@ pub start_reached : (t : Table) (e : ℕ) → e ≡ end_at t.stream.now t.place 
 unfolding Reached strings
 start_reached t e i = λ z. got tt (record { seg = t.place; at = t.place + 12; end = sym i z })
 
-pub start_fits : (t : Table) → 0 < t.count → t.place + 12 < 2 ^ 64
-start_fits t some = let a = start_low t.stream.now t.place t.count (whole_table t some) in let b = t.within (later t some) in let c = t.small in omega arith
+pub start_fits : (t : Table) → 0 < t.count → length t.stream.now < 2 ^ 64 → t.place + 12 < 2 ^ 64
+start_fits t some small = let a = start_low t.stream.now t.place t.count (whole_table t some) in let b = t.within some in omega arith
 
 -- ---- one more
 module _ (p q : List (List ℕ)) where

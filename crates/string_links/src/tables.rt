@@ -73,23 +73,20 @@ fn link_second(first: &Order, table: &Table, marks: &mut [Mark])
 // Marks both tables, and links their long strings. The order is done with when they are; compiled into its caller, it would lie on the stack while cells are merged.
 #[inline(never)]
 pub fn mark_both(first: &Table, x: &mut [Mark], second: &Table, y: &mut [Mark])
-    requires { (0 < length x.old) × (0 < length y.old) }
+    requires { (0 < length x.old) × (0 < length y.old) × (length first.now.stream.now ≤ 16777216) × (length second.now.stream.now ≤ 16777216) }
     ensures { Marks first.now x.new second.now y.new × (length x.new ≡ length x.old) × (length y.new ≡ length y.old) }
 {
     // Rattle has no heap: the order stands on the stack.
     let mut order = [0u16; MARKS];
     first.mark(x);
     second.mark(y);
-    let long = order::collect(x, &mut order);
-    order::sort(first, &*x, &mut order[..long]);
-    let count = order::number(first, x, &mut order, long);
+    let count = order::sort(first, &*x, &mut order);
+    let long = &order[..count];
+    order::number(first, x, long);
     let table = MarkedTable {
         table: *first,
         marks: &*x,
     };
-    let ordered = Order {
-        table,
-        marks: &order[..count],
-    };
+    let ordered = Order { table, marks: long };
     link_second(&ordered, second, y);
 }

@@ -89,12 +89,12 @@ module _ (s : List ℕ) (p k z e : ℕ) (h : Header) (is : h ≡ header_at s p) 
   pub end_less : length s - e < length s - p
   end_less = let w = whole s p k z e (sym is ∙ q) in omega arith
 
--- ---- a segment's header stands before what is read in it, and tells where it ends
-module _ (s : List ℕ) where
+-- ---- a segment's header stands before what is read in it, and tells where it ends; none is longer than a record where the first is not
+module _ (s : List ℕ) (Near : Type 0) where
   pub record In (c : Cursor) : Type 0 where
     pub low : c.seg + 4 ≤ c.at
     pub till : c.end ≡ end_at s c.seg
-    pub short : c.end < c.seg + 65540
+    pub short : Near → c.end < c.seg + 65540
 
   abbrev Low : {A : Type 0} → Got A → Type 0
   Low (got a c) = In c
@@ -125,7 +125,7 @@ module _ (s : List ℕ) where
     low_next c = pick_any Low _ (by (header_at s c.end) refl) tt
       where
         by : (h : Header) → header_at s c.end ≡ h → Low (segment_by n c.end h)
-        by (Record k z e) i = let h = whole s c.end k z e i in pick_any Low _ tt (record { low = omega arith; till = h.end ∙ ap (λ (x : ℕ). c.end + 4 + x) h.size; short = omega arith })
+        by (Record k z e) i = let h = whole s c.end k z e i in pick_any Low _ tt (record { low = omega arith; till = h.end ∙ ap (λ (x : ℕ). c.end + 4 + x) h.size; short = λ _. omega arith })
         by Cut i = tt
         by End i = tt
 
@@ -156,7 +156,7 @@ module _ (s : List ℕ) where
       (λ _ d i. low_then (string_at s d) _ (low_string d i) (λ _ e j. low_push d (strings s n e) (low_strings n e j)))
 
   -- the place after n strings of a table
-  pub low_after : (p e n : ℕ) (c : Cursor) → e ≡ end_at s p → e < p + 65540 → ends (strings s n (first p e)) ≡ got tt c → In c
+  pub low_after : (p e n : ℕ) (c : Cursor) → e ≡ end_at s p → (Near → e < p + 65540) → ends (strings s n (first p e)) ≡ got tt c → In c
   low_after p e n c t k h = subst Low h (low_ends (strings s n (first p e)) (low_strings n (first p e) (record { low = omega arith; till = t; short = k })))
 
 -- ---- a mark's cursor
@@ -183,13 +183,12 @@ standing_none s p m = record { before_none = λ _. refl; first_none = λ h. absu
 
 -- a table of n strings, at least one
 pub record Whole (s : List ℕ) (p n : ℕ) : Type 0 where
-  pub short : end_at s p < p + 65540
   pub within : end_at s p ≤ length s
   pub counted : length (places_of s p (end_at s p)) ≡ n
   pub some : 0 < n
 
 pub whole_table : (t : Table) → 0 < t.count → Whole t.stream.now t.place t.count
-whole_table t some = let later : 0 < t.place = later' in record { short = t.short; within = t.within later; counted = t.counted later; some = some }
+whole_table t some = let later : 0 < t.place = later' in record { within = t.within some; counted = t.counted later; some = some }
   where
     later' : 0 < t.place
     later' = by (eqb t.place 0) refl
@@ -218,14 +217,14 @@ module _ (s : List ℕ) (p n : ℕ) (whole : Whole s p n) where
     pub passed_inside : Inside s c
     passed_inside = strings_inside s k (first p (end_at s p)) c (Ok c) (sym (reaches s p k c h)) refl start_inside
 
-    passed_in : In s c
-    passed_in = low_after s p (end_at s p) k c refl whole.short (reaches s p k c h)
+    passed_in : In s (end_at s p < p + 65540) c
+    passed_in = low_after s (end_at s p < p + 65540) p (end_at s p) k c refl (λ n. n) (reaches s p k c h)
 
     pub passed_low : c.seg + 4 ≤ c.at
     passed_low = passed_in.low
 
-    pub passed_short : c.at < c.seg + 65540
-    passed_short = let a = passed_in.short in let b = passed_inside.0 in omega arith
+    pub passed_short : end_at s p < p + 65540 → c.at < c.seg + 65540
+    passed_short near = let a = passed_in.short near in let b = passed_inside.0 in omega arith
 
     pub passed_small : length s ≤ 16777216 → c.at < 4294967296
     passed_small h = let b = passed_inside in let d = b.0 in let i = b.1 in omega arith

@@ -7,17 +7,15 @@ use crate::marks::Mark;
 use record::Header;
 use segments::Cursor;
 
-// Where its SST has its header, 0 where there is none, and how many strings it has.
+// Where its SST has its header, 0 where there is none, and how many strings it has. Where it has any, its first record lies in the stream.
 #[derive(Clone, Copy)]
 pub struct Table<'a> {
     pub stream: &'a [u8],
     pub place: usize,
     pub count: u32,
     pub ghost absent: { place ≡ 0 → count ≡ 0 },
-    pub ghost within: { 0 < place → end_at stream.now place ≤ length stream.now },
+    pub ghost within: { 0 < count → end_at stream.now place ≤ length stream.now },
     pub ghost counted: { 0 < place → length (places_of stream.now place (end_at stream.now place)) ≡ count },
-    pub ghost short: { end_at stream.now place < place + 65540 },
-    pub ghost small: { length stream.now ≤ 16777216 },
 }
 
 // So many strings were passed, the last of them with so many bytes; the next is looked for at the place.
@@ -31,8 +29,8 @@ pub(crate) struct Passed {
 impl<'a> Table<'a> {
     // Where the body of its SST ends.
     pub fn end(&self) -> usize
-        requires { 0 < self.now.place }
-        ensures { result ≡ end_at self.now.stream.now self.now.place }
+        requires { end_at self.now.stream.now self.now.place ≤ length self.now.stream.now }
+        ensures { (result ≡ end_at self.now.stream.now self.now.place) × (result < self.now.place + 65540) }
     {
         let s = self.stream;
         self.place + 4 + usize::from(byte_numbers::u16_at(s, self.place + 2))
@@ -78,9 +76,9 @@ impl<'a> Table<'a> {
         here
     }
 
-    // Puts marks on all of it, at an even distance: the last one stands at the end.
+    // Puts marks on all of it, at an even distance: the last one stands at the end. A mark tells of a place by four bytes: it holds no place of a longer stream.
     pub fn mark(&self, marks: &mut [Mark])
-        requires { 0 < length marks.old }
+        requires { (0 < length marks.old) × (length self.now.stream.now ≤ 16777216) }
         ensures { (0 < self.now.count → Marked self.now.stream.now self.now.place marks.new) × (length marks.new ≡ length marks.old) }
     {
         if self.count == 0 {

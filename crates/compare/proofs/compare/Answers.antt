@@ -21,7 +21,7 @@ returns-in_err-down c = let r = twice_second _ _ c.args.from c.checked.ensures _
 pub returns : goal.returns
 returns c =
     let e = all_listed _ _ c.args.from c.checked.ensures _ c.in_ok-g.was c.checked-2.ensures _ c.in_ok-h.was c.ascends_once.ensures _ c.in_ok-up.was c.ascends_once-2.ensures _ c.in_ok-down.was in
-    let b = words_are _ _ c.args.from c.table_of.result c.table_of-2.result _ _ c.table_of.ensures c.table_of-2.ensures in
+    let b = words_are _ _ c.args.from c.table_of.result c.table_of-2.result _ _ c.table_of.ensures.table c.table_of-2.ensures.table in
     record {
       value = listed_answer _ _ e _ _ (c.list_both-found.ensures.value ∙ ap (put_to (length c.args.out.now) 0) b) _ c.min.ensures;
       out_after = listed_buffer _ _ e _ _ (c.list_both-found.ensures.out_after ∙ ap (puts c.args.out.now 0) b);

@@ -13,7 +13,7 @@ returns-then-is_none-2 c =
 
 pub put_sheet-j-requires : goal.put_sheet-j-requires
 put_sheet-j-requires c =
-    (both_ascend _ _ _ _ _ _ _ _ _ _ _ c.loop-j.invariant c.next_sheet-x.ensures c.next_sheet-y.ensures c.args.up c.requires, (seen _ _ c.next_sheet-x.ensures).narrow, (seen _ _ c.next_sheet-y.ensures).narrow, listing_few _ _ _ _ _ _ _ _ _ _ _ c.loop-j.invariant c.args.self.now.tables.first.table.small c.args.self.now.tables.second.table.small)
+    (both_ascend _ _ _ _ _ _ _ _ _ _ _ c.loop-j.invariant c.next_sheet-x.ensures c.next_sheet-y.ensures c.args.up c.requires.0, (seen _ _ c.next_sheet-x.ensures).narrow, (seen _ _ c.next_sheet-y.ensures).narrow, listing_few _ _ _ _ _ _ _ _ _ _ _ c.loop-j.invariant c.requires.1 c.requires.2)
 
 pub loop-j-smaller : goal.loop-j-smaller
 loop-j-smaller c =
