@@ -33,7 +33,7 @@ fn merge_windows(
     let s = tables.first.table.stream;
     let t = tables.second.table.stream;
     let mut stages = Stages {
-        far: Stage::<3264>::new(from),
+        far: Stage::<3328>::new(from),
         middle: Stage::<416>::new(from),
         close: Stage::<56>::new(from),
         near: Stage::<8>::new(from),

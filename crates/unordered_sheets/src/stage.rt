@@ -125,7 +125,7 @@ impl<const N: usize> Stage<N> {
 // Each about an eighth of the one before: the larger the first, the fewer passes over the sheets; the last is looked through for each cell.
 #[derive(Drop)]
 pub(crate) struct Stages {
-    pub far: Stage<3264>,
+    pub far: Stage<3328>,
     pub middle: Stage<416>,
     pub close: Stage<56>,
     pub near: Stage<8>,
