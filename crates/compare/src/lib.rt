@@ -288,8 +288,11 @@ fn list_marked<'a>(
     // These too: without a heap they have a fixed size.
     let mut y = [Mark::NONE; 1152];
     string_links::mark_both(first, &mut x, second, &mut y);
-    let tables = marked(*first, &x, *second, &y);
-    Together { tables, common }.list(up, from, out)
+    let together = Together {
+        tables: marked(*first, &x, *second, &y),
+        common,
+    };
+    together.list(up, from, out)
 }
 
 // The same, where `up` and `down` say whether the addresses ascend in the first stream and in the second.

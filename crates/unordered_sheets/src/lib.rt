@@ -4,6 +4,8 @@
 #![tactic(auto)]
 
 ghost use Rattle.std.specs.Prelude.{◌≡◌, ◌≤◌, ◌<◌, length};
+ghost use Rattle.reading.specs.Cells.{place_at, listed_from};
+ghost use Rattle.cell_addresses.specs.Addresses.{AscendFrom};
 ghost use Rattle.cell_differences.specs.Merge.{puts, put_to, cell_words};
 
 mod guess;
@@ -16,7 +18,38 @@ use pair::SheetPair;
 use stage::{Stage, Stages};
 use string_links::Tables;
 
-// One small window after the other.
+// Two sheets in any order, each gone through for each of its cells. Not inlined, since it is hardly ever asked.
+#[inline(never)]
+fn merge_unordered(
+    tables: &Tables,
+    v: usize,
+    w: usize,
+    base: u64,
+    from: u64,
+    i: usize,
+    out: &mut [u64],
+) -> usize
+    requires { (base < 576460752303423488) × (from ≤ 4294967296) }
+    ensures value { result ≡ put_to (length out.old) i (cell_words tables.now.first.table.stream.now v tables.now.first.table.place tables.now.second.table.stream.now w tables.now.second.table.place base from) }
+    ensures out_after { out.new ≡ puts out.old i (cell_words tables.now.first.table.stream.now v tables.now.first.table.place tables.now.second.table.stream.now w tables.now.second.table.place base from) }
+{
+    let sides = SheetPair {
+        first: SheetCells {
+            stream: tables.first.table.stream,
+            from: v,
+            source: Source::Unordered,
+        },
+        second: SheetCells {
+            stream: tables.second.table.stream,
+            from: w,
+            source: Source::Unordered,
+        },
+    };
+    cell_differences::merge(&sides, tables, base, from, i, out)
+}
+
+// One small window after the other. Not inlined: its tables would lie in the frame that has the marks, beneath the order of long strings.
+#[inline(never)]
 fn merge_windows(
     tables: &Tables,
     v: usize,
@@ -46,18 +79,7 @@ fn merge_windows(
         let high = stages.near.high;
         // With more cells at one address than a table has room for, there is no window: the sheets themselves are gone through for each cell.
         if high <= lo {
-            let first = SheetCells {
-                stream: s,
-                from: v,
-                source: Source::Unordered,
-            };
-            let second = SheetCells {
-                stream: t,
-                from: w,
-                source: Source::Unordered,
-            };
-            let sides = SheetPair { first, second };
-            return cell_differences::merge(&sides, tables, base, lo, j, out);
+            return merge_unordered(tables, v, w, base, lo, j, out);
         }
         let sides = stages.near.sides(s, v, t, w);
         j = cell_differences::merge(&sides, tables, base, lo, j, out);
@@ -66,10 +88,38 @@ fn merge_windows(
     j
 }
 
-// The differences between the cells of two sheets, which start at `v` in the first stream and at `w` in the second, from address `from` on.
-// `base` is the key of address 0. i words stand in the buffer, and the answer is how many then do. Not inlined: its tables would lie in the frame that has the marks, beneath the order
-// of long strings.
+// Two sheets whose addresses ascend. Not inlined: it needs none of the tables of a window.
 #[inline(never)]
+fn merge_ascending(
+    tables: &Tables,
+    v: usize,
+    w: usize,
+    base: u64,
+    from: u64,
+    i: usize,
+    out: &mut [u64],
+) -> usize
+    requires { (base < 576460752303423488) × (from ≤ 4294967296) × AscendFrom 0 (listed_from tables.now.first.table.stream.now (place_at v 0)) × AscendFrom 0 (listed_from tables.now.second.table.stream.now (place_at w 0)) }
+    ensures value { result ≡ put_to (length out.old) i (cell_words tables.now.first.table.stream.now v tables.now.first.table.place tables.now.second.table.stream.now w tables.now.second.table.place base from) }
+    ensures out_after { out.new ≡ puts out.old i (cell_words tables.now.first.table.stream.now v tables.now.first.table.place tables.now.second.table.stream.now w tables.now.second.table.place base from) }
+{
+    let sides = SheetPair {
+        first: SheetCells {
+            stream: tables.first.table.stream,
+            from: v,
+            source: Source::Ascending,
+        },
+        second: SheetCells {
+            stream: tables.second.table.stream,
+            from: w,
+            source: Source::Ascending,
+        },
+    };
+    cell_differences::merge(&sides, tables, base, from, i, out)
+}
+
+// The differences between the cells of two sheets, which start at `v` in the first stream and at `w` in the second, from address `from` on.
+// `base` is the key of address 0. i words stand in the buffer, and the answer is how many then do.
 pub fn merge_cells(
     tables: &Tables,
     v: usize,
@@ -83,21 +133,10 @@ pub fn merge_cells(
     ensures value { result ≡ put_to (length out.old) i (cell_words tables.now.first.table.stream.now v tables.now.first.table.place tables.now.second.table.stream.now w tables.now.second.table.place base from) }
     ensures out_after { out.new ≡ puts out.old i (cell_words tables.now.first.table.stream.now v tables.now.first.table.place tables.now.second.table.stream.now w tables.now.second.table.place base from) }
 {
-    let s = tables.first.table.stream;
-    let t = tables.second.table.stream;
-    if cell_addresses::ascends(s, v) && cell_addresses::ascends(t, w) {
-        let first = SheetCells {
-            stream: s,
-            from: v,
-            source: Source::Ascending,
-        };
-        let second = SheetCells {
-            stream: t,
-            from: w,
-            source: Source::Ascending,
-        };
-        let sides = SheetPair { first, second };
-        return cell_differences::merge(&sides, tables, base, from, i, out);
+    if cell_addresses::ascends(tables.first.table.stream, v)
+        && cell_addresses::ascends(tables.second.table.stream, w)
+    {
+        return merge_ascending(tables, v, w, base, from, i, out);
     }
     merge_windows(tables, v, w, base, from, i, out)
 }

@@ -28,6 +28,8 @@ impl<'a> Sides for SheetPair<'a> {
 
     ghost can_start = { λ x. Unit {0} };
 
+    // Not inlined, nor is `next_both`: two more cells each would stand in the merge's frame, beneath the comparison of two texts.
+    #[inline(never)]
     fn start(&self, k: u64) -> (Head, Head) {
         let first = Place {
             at: self.first.from,
@@ -50,6 +52,7 @@ impl<'a> Sides for SheetPair<'a> {
         self.second.advance(place, k)
     }
 
+    #[inline(never)]
     fn next_both(&self, first: Place, second: Place, k: u64) -> (Head, Head) {
         (self.first.advance(first, k), self.second.advance(second, k))
     }

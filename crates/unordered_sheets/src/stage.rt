@@ -136,7 +136,8 @@ impl Stages {
     ghost use Rattle.reading.specs.Cells.{place_at, listed_from};
     ghost use Rattle.unordered_sheets.specs.Staged.{AllHold};
 
-    // The windows from `lo` on, the large one of the sheets that start at `v` and at `w`.
+    // The windows from `lo` on, the large one of the sheets that start at `v` and at `w`. Not inlined: what it holds would stand beneath the merge, which is done after.
+    #[inline(never)]
     pub(crate) fn next(&mut self, s: &[u8], v: usize, t: &[u8], w: usize, lo: u64)
         requires { (lo < 4294967296) × AllHold s.now t.now (listed_from s.now (place_at v 0)) (listed_from t.now (place_at w 0)) lo self.old }
         ensures { AllHold s.now t.now (listed_from s.now (place_at v 0)) (listed_from t.now (place_at w 0)) lo self.new }
