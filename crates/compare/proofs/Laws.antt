@@ -13,9 +13,11 @@ use Rattle.steps.specs.Choice.{pick}
 use Rattle.steps.proofs.Choice.{pick_yes, pick_no, pick_le, pick_nle, pick_lt, pick_nlt, pick_any, never}
 use Rattle.steps.specs.Items.{nth, onto}
 use Rattle.record.specs.declared.Header.{Header}
-use Rattle.record.specs.declared.Header.TheVariants.{End}
+use Rattle.record.specs.declared.Header.TheVariants.{Record, Cut, End}
 use Rattle.record.specs.Record.{header_at}
-use Rattle.record.proofs.Laws.{header_end}
+use Rattle.record.proofs.Laws.{header_end, whole}
+use Rattle.byte_numbers.specs.Bytes.{u16_at}
+use Rattle.globals.specs.Globals.{on_first, globals_of}
 use Rattle.sheet_agreement.specs.declared.SheetKind.{SheetKind}
 use Rattle.sheet_agreement.specs.declared.SheetKind.TheVariants.{Worksheet}
 use Rattle.sheet_agreement.specs.Agreement.{same_kind, Sheet}
@@ -533,26 +535,42 @@ module _ (c : Comparison) (l : List ℕ) (e : c ≡ lists l) where
 -- ---- the table of strings of a stream that passes
 pub record Tabled (s : List ℕ) (g : Globals) : Type 0 where
   pub absent : g.table ≡ 0 → g.unique ≡ 0
-  pub within : 0 < g.unique → end_at s g.table ≤ length s
+  pub within : 0 < g.table → end_at s g.table ≤ length s
+  pub stands : 0 < g.unique → end_at s g.table ≤ length s
   pub counted : 0 < g.table → length (places_of s g.table (end_at s g.table)) ≡ g.unique
+  pub short : end_at s g.table < g.table + 65540
   pub small : length s ≤ 16777216
 
-tabled_by : (s : List ℕ) (g : Globals) → length s ≤ 16777216 → TableTold s 0 g → Tabled s g
-tabled_by s g l (inl t) = record {
+-- the first record is whole, as every record of it
+first_small : (s : List ℕ) (g : Globals) → globals_of s 0 ≡ Ok g → u16_at s 2 ≤ 8224
+unfolding globals_of
+first_small s g h = by (header_at s 0) refl h
+  where
+    by : (x : Header) → header_at s 0 ≡ x → on_first s 0 x ≡ Ok g → u16_at s 2 ≤ 8224
+    by (Record t z e) i j = let w = whole s 0 t z e i in let a = w.size in let b = w.small in omega arith
+    by Cut i j = never (cc)
+    by End i j = never (cc)
+
+tabled_by : (s : List ℕ) (g : Globals) → length s ≤ 16777216 → u16_at s 2 ≤ 8224 → TableTold s 0 g → Tabled s g
+tabled_by s g l few (inl t) = record {
   absent = λ _. t.1;
-  within = λ h. absurd (let e = t.1 in omega arith);
+  within = λ h. absurd (let e = t.0 in omega arith);
+  stands = λ h. absurd (let e = t.1 in omega arith);
   counted = λ h. absurd (let e = t.0 in omega arith);
+  short = subst⁻¹ (λ (p : ℕ). end_at s p < p + 65540) t.0 (omega arith);
   small = l;
 }
-tabled_by s g l (inr t) = record {
+tabled_by s g l few (inr t) = record {
   absent = λ h. absurd (let e = t.later in omega arith);
   within = λ _. t.within;
+  stands = λ _. t.within;
   counted = λ _. t.count;
+  short = let w = whole s g.table 0x00FC (u16_at s (g.table + 2)) (g.table + 4 + u16_at s (g.table + 2)) t.sst in let b = w.small in omega arith;
   small = l;
 }
 
 pub tabled : (s : List ℕ) (g : Globals) → checked_of s 0 ≡ Right g → Tabled s g
-tabled s g h = tabled_by s g (short s 0 g {r = checked_of s 0} refl h) (table_told s 0 g (checked_globals s 0 g (sym h)))
+tabled s g h = let k = checked_globals s 0 g (sym h) in tabled_by s g (short s 0 g {r = checked_of s 0} refl h) (first_small s g k) (table_told s 0 g k)
 
 -- the differences of the tables made of the globals
 pub words_are : (s t : List ℕ) (from : ℕ) (x y : Table) (p q : ℕ) → (x.stream.now ≡ s) × (x.place ≡ p) → (y.stream.now ≡ t) × (y.place ≡ q) → words_in x y from ≡ differences (book_of s p) (book_of t q) from

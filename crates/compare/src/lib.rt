@@ -1,10 +1,11 @@
 // Two revisions compared: the words of their differences, as many as a lent buffer takes, from a key on.
 #![tactic(auto)]
 
-ghost use Rattle.std.specs.Prelude.{◌≡◌, ◌≤◌, ◌<◌, length};
+ghost use Rattle.std.specs.Prelude.{◌≡◌, ◌+◌, ◌≤◌, ◌<◌, length};
 ghost use Rattle.reading.specs.Reading.{reading_of};
 ghost use Rattle.reading.specs.Cells.{place_at, listed_from};
 ghost use Rattle.globals.specs.Sheets.{sheets_of};
+ghost use Rattle.string_marks.specs.Marks.{end_at};
 ghost use Rattle.string_links.specs.Links.{strings_in, Marks};
 ghost use Rattle.workbook.specs.Check.{checked_of, Right};
 ghost use Rattle.cell_addresses.specs.Addresses.{When, AscendFrom};
@@ -320,6 +321,8 @@ fn list_both<'a>(
 fn table_of(stream: &[u8], g: Globals) -> Table<'_>
     requires { checked_of stream.now 0 ≡ Right g }
     ensures table { (result.stream.now ≡ stream.now) × (result.place ≡ g.table) }
+    ensures within { 0 < result.place → end_at result.stream.now result.place ≤ length result.stream.now }
+    ensures short { end_at result.stream.now result.place < result.place + 65540 }
     ensures small { length result.stream.now ≤ 16777216 }
 {
     Table {
