@@ -1,3 +1,4 @@
+use native.Mathlib.Omega.{arith}
 use Rattle.compare.proofs.Laws.{tabled}
 use Rattle.compare.proofs.table_of.Goals as goal
 
@@ -9,7 +10,7 @@ pub returns-clause-within : goal.returns-clause-within
 returns-clause-within c = (tabled c.args.stream.now c.args.g c.requires).within
 
 pub returns-clause-short : goal.returns-clause-short
-returns-clause-short c = (tabled c.args.stream.now c.args.g c.requires).short
+returns-clause-short c = let t = (tabled c.args.stream.now c.args.g c.requires).short in omega arith
 
 pub returns-clause-small : goal.returns-clause-small
 returns-clause-small c = (tabled c.args.stream.now c.args.g c.requires).small
